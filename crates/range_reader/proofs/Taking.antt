@@ -6,12 +6,15 @@ use Rattle.tree_geom.specs.declared.node.Piece.{Piece}
 use Rattle.tree_geom.specs.Geometry.{page_range}
 use Rattle.tree_geom.specs.Nodes.{second_of}
 use Rattle.range_log.specs.Rows.{node_of}
-use Rattle.snapshot.specs.Versions.{Version}
+use Rattle.range_log.specs.Laws.{LeavesFill, LeavesFit, PiecesFit, FoldsAre, PageBytesStay, ExtentsStand}
+use Rattle.snapshot.specs.Versions.{Version, HasNodeFor, IsVersion}
+use Rattle.tree_geom.proofs.Spans.{page_pos}
+use Rattle.range_reader.specs.declared.source.LeafAt.{LeafAt}
 use Rattle.range_reader.specs.declared.source.LeafParts.{LeafParts}
 use Rattle.range_reader.specs.Faults.{HasPieceIn}
 use Rattle.range_reader.specs.Reading.{falls, page_in, leaf_in, own_start, own_len, stored_bytes, IsLeafOf}
 use Rattle.range_reader.proofs.Parts.{part_read, length_part}
-use Rattle.range_reader.proofs.Leaves.{LeafOf, IsPieceOf}
+use Rattle.range_reader.proofs.Leaves.{LeafOf, IsPieceOf, leaf_of_version}
 use Rattle.range_reader.proofs.NodeParts.{pieces_in}
 
 -- n bytes of one list that stand in another too
@@ -44,10 +47,10 @@ module _ (s : Version) (j i : ℕ) (parts : LeafParts) (is : IsLeafOf s j i part
   pub first_is : IsPieceOf s j i (own_start s j i) parts.first
   first_is = let P : Piece → Type 0 = λ x. IsPieceOf s j i (own_start s j i) x in subst P (sym is.first) of.tells.one
 
-  pub first_in : (p : ℕ) → 1 ≤ p → p ≡ s.page_size → HasPieceIn (node_of s.page_size (falls s) j (page_range s.page_size i)) parts.first.page
-  first_in p pos same =
+  first_in : 1 ≤ s.page_size → HasPieceIn (node_of s.page_size (falls s) j (page_range s.page_size i)) parts.first.page
+  first_in pos =
       let P : Piece → Type 0 = λ x. HasPieceIn (leaf_in s j i) x.page in
-      pieces_in s.page_size j i parts.first.page (falls s) (omega (arith, pos, same)) (subst P (sym is.first) of.tells.has_one)
+      pieces_in s.page_size j i parts.first.page (falls s) pos (subst P (sym is.first) of.tells.has_one)
 
   pub second_is : 1 ≤ parts.second.len → IsPieceOf s j i (own_start s j i + parts.first.len) parts.second
   second_is some =
@@ -55,10 +58,10 @@ module _ (s : Version) (j i : ℕ) (parts : LeafParts) (is : IsLeafOf s j i part
       let Q : Piece → Type 0 = λ x. IsPieceOf s j i (own_start s j i + x.len) (second_of (leaf_in s j i)) in
       subst P (sym is.second) (subst Q (sym is.first) (of.tells.two (omega (arith, some, ap (λ (x : Piece). x.len) is.second))))
 
-  pub second_in : (p : ℕ) → 1 ≤ p → p ≡ s.page_size → 1 ≤ parts.second.len → HasPieceIn (node_of s.page_size (falls s) j (page_range s.page_size i)) parts.second.page
-  second_in p pos same some =
+  second_in : 1 ≤ s.page_size → 1 ≤ parts.second.len → HasPieceIn (node_of s.page_size (falls s) j (page_range s.page_size i)) parts.second.page
+  second_in pos some =
       let P : Piece → Type 0 = λ x. HasPieceIn (leaf_in s j i) x.page in
-      pieces_in s.page_size j i parts.second.page (falls s) (omega (arith, pos, same))
+      pieces_in s.page_size j i parts.second.page (falls s) pos
       (subst P (sym is.second) (of.tells.has_two (omega (arith, some, ap (λ (x : Piece). x.len) is.second))))
 
   -- n bytes of a piece, from its byte skip on, are the page's
@@ -82,3 +85,30 @@ module _ (s : Version) (j i : ℕ) (parts : LeafParts) (is : IsLeafOf s j i part
       let e : parts.second.from + skip + y ≡ parts.second.from + (skip + y) = omega arith in
       let f : own_start s j i + parts.first.len + (skip + y) ≡ begin + y = omega (arith, same) in
       ap (λ z. get_or (stored_bytes s j parts.second.page) z 0) e ∙ piece.same (skip + y) (omega (arith, lt, fits)) ∙ ap (λ z. get_or (page_in s j i) z 0) f)
+
+-- what the parts of a leaf tell of its pieces
+pub record LeafPieces (s : Version) (leaf : LeafAt) : Type 0 where
+  pub of : LeafOf s leaf.version leaf.page
+  pub lens : leaf.parts.first.len + leaf.parts.second.len ≡ own_len s leaf.version leaf.page
+  pub inside : leaf.parts.start + (leaf.parts.first.len + leaf.parts.second.len) ≤ s.page_size
+  pub first : IsPieceOf s leaf.version leaf.page (own_start s leaf.version leaf.page) leaf.parts.first
+  pub second : 1 ≤ leaf.parts.second.len → IsPieceOf s leaf.version leaf.page (own_start s leaf.version leaf.page + leaf.parts.first.len) leaf.parts.second
+  pub first_in : HasPieceIn (node_of s.page_size (falls s) leaf.version (page_range s.page_size leaf.page)) leaf.parts.first.page
+  pub second_in : 1 ≤ leaf.parts.second.len → HasPieceIn (node_of s.page_size (falls s) leaf.version (page_range s.page_size leaf.page)) leaf.parts.second.page
+
+pub leaf_pieces : LeavesFill → LeavesFit → PiecesFit → FoldsAre → PageBytesStay → ExtentsStand → (s : Version) → IsVersion s → (leaf : LeafAt) → HasNodeFor s leaf.version (page_range s.page_size leaf.page)
+    → IsLeafOf s leaf.version leaf.page leaf.parts → LeafPieces s leaf
+leaf_pieces fill fit pieces folds stay stand s is leaf has parts =
+    let j : ℕ = leaf.version in
+    let i : ℕ = leaf.page in
+    let of = leaf_of_version fill fit pieces folds stay stand s is j i has in
+    let pos : 1 ≤ s.page_size = page_pos s.page_size is.page_size in
+    record {
+      of = of;
+      lens = lens s j i leaf.parts parts;
+      inside = omega (arith, parts.start, lens s j i leaf.parts parts, of.tells.inside);
+      first = first_is s j i leaf.parts parts of;
+      second = second_is s j i leaf.parts parts of;
+      first_in = first_in s j i leaf.parts parts of pos;
+      second_in = second_in s j i leaf.parts parts of pos;
+    }

@@ -164,6 +164,35 @@ inner_step inner p (suc k) q first last from n r pos e large before after le fit
       visits = inner k q first last begins ends;
     }
 
+-- a node of more than a page: each link names the newest node of its half, and its visits are one and those of its halves
+pub record InnerNode (s : Version) (r low high : Range) (left right : ℕ) : Type 0 where
+  pub left_newest : (left ≡ newest_in s low) × HasNodeFor s left low
+  pub right_newest : high.offset < size_now s → (right ≡ newest_in s high) × HasNodeFor s right high
+  pub ends : high.offset + high.size ≡ r.offset + r.size
+  pub step : VisitedInner → (h q first last from n : ℕ) → r ≡ tree_range s.page_size h q → first * s.page_size ≤ from → from + n ≤ (last + 1) * s.page_size
+      → r.offset ≤ from → from + n ≤ r.offset + r.size → 1 ≤ n → InnerStep s.page_size h q first last r
+
+pub inner_node : LinksStep → ExtentsStand → (s : Version) → IsVersion s → (at left right bytes : ℕ) (r low high : Range) → at ≡ newest_in s r → HasNodeFor s at r → r.size ≢ bytes → bytes ≡ s.page_size
+    → low ≡ left_half r → high ≡ right_half r → r.offset < size_now s
+    → left ≡ newest_of s.page_size (log_of s) at (left_half r) → right ≡ newest_of s.page_size (log_of s) at (right_half r) → InnerNode s r low high left right
+inner_node links stand s is at left right bytes r low high newest has other size lower upper begins to_left to_right =
+    let p : ℕ = s.page_size in
+    let pos : 1 ≤ p = page_pos p is.page_size in
+    let large : p < r.size = larger p r pos has.aligned (λ e. other (e ∙ sym size)) in
+    let o = ap (λ (x : Range). x.offset) lower in
+    let turn = ap (λ (x : Range). x.offset) upper in
+    let half = ap (λ (x : Range). x.size) upper in
+    record {
+      left_newest = child links stand s is at left r low newest has large (inl lower) (omega (arith, o, begins)) (to_left ∙ ap (newest_of p (log_of s) at) (sym lower));
+      right_newest = λ within. child links stand s is at right r high newest has large (inr upper) within (to_right ∙ ap (newest_of p (log_of s) at) (sym upper));
+      ends = omega (arith, turn, half, even p r has.aligned large);
+      step = λ visited h q first last from n e before after le fits some. inner_step visited p h q first last from n r pos e large before after le fits some;
+    }
+
+-- halves can be made of it
+pub halved : (s : Version) → IsVersion s → (at bytes : ℕ) (r : Range) → HasNodeFor s at r → r.size ≢ bytes → bytes ≡ s.page_size → r.size % 2 ≡ 0
+halved s is at bytes r has other size = even s.page_size r has.aligned (larger s.page_size r (page_pos s.page_size is.page_size) has.aligned (λ e. other (e ∙ sym size)))
+
 -- ---- the backs of two parts of the pages
 range_more : (a m n : ℕ) → range_with_len a m ++ range_with_len (a + m) n ≡ range_with_len a (m + n)
 range_more a zero n =

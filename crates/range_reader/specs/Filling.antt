@@ -1,5 +1,8 @@
 -- A buffer for bytes of a page, and marks of those that are still wanted.
 use Rattle.std.specs.Prelude.{◌≡◌, ◌≢◌, ℕ, ◌+◌, ◌-◌, ◌<◌, ◌≤◌, Bool, true, false, List, length, slice_index, slice_index_or}
+use Rattle.snapshot.specs.Versions.{Version}
+use Rattle.range_reader.specs.declared.source.LeafAt.{LeafAt}
+use Rattle.range_reader.specs.Reading.{page_in, own_start, own_len}
 
 -- where bytes were marked, they are those of a list from its byte `from` on, and all others are as they were
 pub record Filled (from : ℕ) (bytes : List ℕ) (marks : List Bool) (old new : List ℕ) : Type 0 where
@@ -20,6 +23,16 @@ pub record Taken (start len begin : ℕ) (old new : List Bool) : Type 0 where
   pub within : (x : ℕ) → x < length old → start ≤ begin + x → begin + x < start + len → slice_index_or new x false ≡ false
   pub below : (x : ℕ) → x < length old → begin + x < start → slice_index_or new x false ≡ slice_index_or old x false
   pub above : (x : ℕ) → x < length old → start + len ≤ begin + x → slice_index_or new x false ≡ slice_index_or old x false
+
+-- the bytes of a leaf that were marked are there, as its version has them, and all others are as they were
+abbrev pub OverlaidBy : Version → LeafAt → ℕ → List Bool → List ℕ → List ℕ → Type 0
+OverlaidBy s leaf begin marks old new =
+    let start = own_start s leaf.version leaf.page in
+    Overlaid start (own_len s leaf.version leaf.page) start begin (page_in s leaf.version leaf.page) marks old new
+
+-- none of them is wanted any longer
+abbrev pub TakenBy : Version → LeafAt → ℕ → List Bool → List Bool → Type 0
+TakenBy s leaf begin old new = Taken (own_start s leaf.version leaf.page) (own_len s leaf.version leaf.page) begin old new
 
 -- `next` is the first byte from `first` on that is wanted, or how many bytes there are
 pub record IsNextWanted (marks : List Bool) (first next : ℕ) : Type 0 where

@@ -8,7 +8,7 @@ ghost use Rattle.range_reader.specs.Reading.{page_in, IsLeafOf};
 ghost use Rattle.range_reader.specs.Holders.{HasByte};
 ghost use Rattle.range_reader.specs.Faults.{CountsKept, PieceFailed};
 
-use crate::source::{LeafParts, ReadSource};
+use crate::source::{LeafAt, LeafParts, ReadSource};
 use crate::whole::take_leaf;
 use page_fan::Doors;
 use page_store::Door;
@@ -30,54 +30,45 @@ impl Gap {
     }
 }
 
-// Fetches the bytes of a leaf of the page, that of update `j`, that lie in the gap, and tells what is left of the gap. The leaf
-// has an end of the gap, or nothing of it. The buffer begins at byte `begin` of the page. None where all doors of one stored
-// page failed.
+// Fetches the bytes of a leaf that lie in the gap of its page, and tells what is left of the gap. The leaf has an end of the gap,
+// or nothing of it. The buffer begins at byte `begin` of the page. None where all doors of one stored page failed.
 #[inline(always)]
 pub(crate) fn fill_end<D: Door>(
     source: &ReadSource,
     doors: &mut Doors<D>,
-    j: u64,
-    page: u64,
-    leaf: LeafParts,
+    leaf: LeafAt,
     gap: Gap,
     begin: usize,
     out: &mut [u8],
 ) -> Option<Gap>
-    requires here { IsVersionIn source.now.nodes.now source.now.houses.now source.now.snapshot.now }
+    requires here { IsVersionIn source.now.nodes.now source.now.houses.now source.now.view.now }
     requires doors { length doors.old ≡ length source.now.houses.now }
-    requires has { HasNodeFor source.now.snapshot.now j (page_range source.now.snapshot.now.page_size page) }
-    requires leaf { IsLeafOf source.now.snapshot.now j page leaf }
-    requires within { begin + length out.old ≤ source.now.snapshot.now.page_size }
+    requires has { HasNodeFor source.now.view.now leaf.version (page_range source.now.view.now.page_size leaf.page) }
+    requires leaf { IsLeafOf source.now.view.now leaf.version leaf.page leaf.parts }
+    requires within { begin + length out.old ≤ source.now.view.now.page_size }
     requires low { begin ≤ gap.low }
     requires some { gap.low < gap.high }
     requires high { gap.high ≤ begin + length out.old }
-    requires end { ¬ ((gap.low < leaf.start) × (leaf.start + (leaf.first.len + leaf.second.len) < gap.high)) }
+    requires end { ¬ ((gap.low < leaf.parts.start) × (leaf.parts.start + (leaf.parts.first.len + leaf.parts.second.len) < gap.high)) }
     ensures left { IfSome result (λ left. (gap.low ≤ left.low) × (left.low ≤ left.high) × (left.high ≤ gap.high)) }
-    ensures lacks { IfSome result (λ left. (b : ℕ) → left.low ≤ b → b < left.high → ¬ HasByte source.now.snapshot.now j page b) }
+    ensures lacks { IfSome result (λ left. (b : ℕ) → left.low ≤ b → b < left.high → ¬ HasByte source.now.view.now leaf.version leaf.page b) }
     ensures narrowed { All D.is_true doors.old
-        → IfSome result (λ left. Narrowed (page_in source.now.snapshot.now j page) begin gap.low gap.high left.low left.high out.old out.new) }
-    ensures failed { IsNone result → PieceFailed source.now.snapshot.now (map D.faults doors.old) (map D.faults doors.new) page j }
+        → IfSome result (λ left. Narrowed (page_in source.now.view.now leaf.version leaf.page) begin gap.low gap.high left.low left.high out.old out.new) }
+    ensures failed { IsNone result → PieceFailed source.now.view.now (map D.faults doors.old) (map D.faults doors.new) leaf.page leaf.version }
     ensures counted { IsNone result → HasRisen (sum_by D.faults doors.old) (sum_by D.faults doors.new) }
     ensures kept { CountsKept (map D.faults doors.old) (map D.faults doors.new) (sum_by D.faults doors.old) (sum_by D.faults doors.new) }
     ensures count { length doors.new ≡ length doors.old }
     ensures truth_stays { All D.is_true doors.old → All D.is_true doors.new }
 {
-    source.snapshot.page_size().stands();
-    if !leaf.meets(gap.low, gap.high - gap.low) {
+    source.view.page_size().stands();
+    let parts = leaf.parts;
+    if !parts.meets(gap.low, gap.high - gap.low) {
         return Some(gap);
     }
-    let from = gap.low.max(leaf.start as usize);
-    let to = gap.high.min(leaf.end());
-    if !take_leaf(
-        source,
-        doors,
-        j,
-        page,
-        leaf,
-        from,
-        &mut out[from - begin..to - begin],
-    ) {
+    let from = gap.low.max(parts.start as usize);
+    let to = gap.high.min(parts.end());
+    let part = &mut out[from - begin..to - begin];
+    if !take_leaf(source, doors, leaf, from, part) {
         return None;
     }
     if from == gap.low {

@@ -24,4 +24,5 @@ pub use known::KnownNode;
 pub use locate::holder;
 pub use marks::ReadRoom;
 pub use node_store::NoMemory;
-pub use reader::{ReadFault, read, read_knowing, read_version};
+pub use reader::{ReadFault, read, read_version};
+pub use source::ReadSource;

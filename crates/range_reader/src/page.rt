@@ -4,43 +4,38 @@ ghost use Rattle.tree_geom.specs.Geometry.{page_range};
 ghost use Rattle.range_log.specs.Visits.{backs_of};
 ghost use Rattle.page_store.specs.Count.{HasRisen};
 ghost use Rattle.snapshot.specs.Versions.{size_now, HasNodeFor, IsVersionIn};
-ghost use Rattle.range_reader.specs.Filling.{Overlaid, Taken, IsNextWanted};
-ghost use Rattle.range_reader.specs.Reading.{falls, newest_in, bytes_at, page_in, own_start, own_len, IsLeafOf};
+ghost use Rattle.range_reader.specs.Filling.{OverlaidBy, TakenBy, IsNextWanted};
+ghost use Rattle.range_reader.specs.Reading.{falls, newest_in, bytes_at, page_in, IsLeafOf};
 ghost use Rattle.range_reader.specs.Faults.{CountsKept, IsLedTo, PieceFailed, PageFailed};
 
 use crate::gap::{Gap, fill_end};
 use crate::marks::{first_marked, mark_all};
 use crate::piece::fill_piece;
-use crate::source::{LeafParts, ReadSource, leaf};
+use crate::source::{LeafAt, ReadSource, leaf};
 use crate::whole::take_leaf;
 use page_fan::Doors;
 use page_store::Door;
 use std::sync::ledger::Ledger;
 use tree_geom::Steps;
 
-// Fetches the wanted bytes of a leaf of the page, that of update `j`. The buffer begins at byte `begin` of the page.
+// Fetches the wanted bytes of a leaf. The buffer begins at byte `begin` of the page.
 fn fill_leaf<D: Door>(
     source: &ReadSource,
     doors: &mut Doors<D>,
-    j: u64,
-    page: u64,
-    leaf: LeafParts,
+    leaf: LeafAt,
     begin: usize,
     marks: &mut [bool],
     out: &mut [u8],
 ) -> bool
-    requires here { IsVersionIn source.now.nodes.now source.now.houses.now source.now.snapshot.now }
+    requires here { IsVersionIn source.now.nodes.now source.now.houses.now source.now.view.now }
     requires doors { length doors.old ≡ length source.now.houses.now }
-    requires has { HasNodeFor source.now.snapshot.now j (page_range source.now.snapshot.now.page_size page) }
-    requires leaf { IsLeafOf source.now.snapshot.now j page leaf }
-    requires within { begin + length out.old ≤ source.now.snapshot.now.page_size }
+    requires has { HasNodeFor source.now.view.now leaf.version (page_range source.now.view.now.page_size leaf.page) }
+    requires leaf { IsLeafOf source.now.view.now leaf.version leaf.page leaf.parts }
+    requires within { begin + length out.old ≤ source.now.view.now.page_size }
     requires marked { length marks.old ≡ length out.old }
-    ensures overlaid { let s = source.now.snapshot.now in
-        All D.is_true doors.old → IsTrue result
-        → Overlaid (own_start s j page) (own_len s j page) (own_start s j page) begin (page_in s j page) marks.old out.old out.new }
-    ensures taken { let s = source.now.snapshot.now in
-        IsTrue result → Taken (own_start s j page) (own_len s j page) begin marks.old marks.new }
-    ensures failed { IsFalse result → PieceFailed source.now.snapshot.now (map D.faults doors.old) (map D.faults doors.new) page j }
+    ensures overlaid { All D.is_true doors.old → IsTrue result → OverlaidBy source.now.view.now leaf begin marks.old out.old out.new }
+    ensures taken { IsTrue result → TakenBy source.now.view.now leaf begin marks.old marks.new }
+    ensures failed { IsFalse result → PieceFailed source.now.view.now (map D.faults doors.old) (map D.faults doors.new) leaf.page leaf.version }
     ensures counted { IsFalse result → HasRisen (sum_by D.faults doors.old) (sum_by D.faults doors.new) }
     ensures kept { CountsKept (map D.faults doors.old) (map D.faults doors.new) (sum_by D.faults doors.old) (sum_by D.faults doors.new) }
     ensures count { length doors.new ≡ length doors.old }
@@ -49,16 +44,36 @@ fn fill_leaf<D: Door>(
     range_log::laws::leaves_fill();
     range_log::laws::folds_are();
     range_log::laws::page_bytes_stay();
-    source.snapshot.stands();
-    let start = leaf.start as usize;
-    if !fill_piece(source, doors, j, leaf.first, start, begin, marks, out) {
+    source.view.stands();
+    let version = leaf.version;
+    let parts = leaf.parts;
+    let start = parts.start as usize;
+    if !fill_piece(
+        source,
+        doors,
+        version,
+        parts.first,
+        start,
+        begin,
+        marks,
+        out,
+    ) {
         return false;
     }
-    if leaf.second.len == 0 {
+    if parts.second.len == 0 {
         return true;
     }
-    let middle = start + leaf.first.len as usize;
-    fill_piece(source, doors, j, leaf.second, middle, begin, marks, out)
+    let middle = start + parts.first.len as usize;
+    fill_piece(
+        source,
+        doors,
+        version,
+        parts.second,
+        middle,
+        begin,
+        marks,
+        out,
+    )
 }
 
 // Fetches the wanted bytes of a leaf as `fill_leaf` does, and tells the first byte from `first` on that is still wanted, or
@@ -67,72 +82,64 @@ fn fill_leaf<D: Door>(
 fn fill_wanted<D: Door>(
     source: &ReadSource,
     doors: &mut Doors<D>,
-    j: u64,
-    page: u64,
-    leaf: LeafParts,
+    leaf: LeafAt,
     begin: usize,
     first: usize,
     marks: &mut [bool],
     out: &mut [u8],
 ) -> Option<usize>
-    requires here { IsVersionIn source.now.nodes.now source.now.houses.now source.now.snapshot.now }
+    requires here { IsVersionIn source.now.nodes.now source.now.houses.now source.now.view.now }
     requires doors { length doors.old ≡ length source.now.houses.now }
-    requires has { HasNodeFor source.now.snapshot.now j (page_range source.now.snapshot.now.page_size page) }
-    requires leaf { IsLeafOf source.now.snapshot.now j page leaf }
-    requires within { begin + length out.old ≤ source.now.snapshot.now.page_size }
+    requires has { HasNodeFor source.now.view.now leaf.version (page_range source.now.view.now.page_size leaf.page) }
+    requires leaf { IsLeafOf source.now.view.now leaf.version leaf.page leaf.parts }
+    requires within { begin + length out.old ≤ source.now.view.now.page_size }
     requires marked { length marks.old ≡ length out.old }
     requires first { first < length out.old }
     requires wanted { slice_index_or marks.old first false ≡ true }
-    ensures overlaid { let s = source.now.snapshot.now in
-        All D.is_true doors.old → IsSome result
-        → Overlaid (own_start s j page) (own_len s j page) (own_start s j page) begin (page_in s j page) marks.old out.old out.new }
-    ensures taken { let s = source.now.snapshot.now in
-        IsSome result → Taken (own_start s j page) (own_len s j page) begin marks.old marks.new }
+    ensures overlaid { All D.is_true doors.old → IsSome result → OverlaidBy source.now.view.now leaf begin marks.old out.old out.new }
+    ensures taken { IsSome result → TakenBy source.now.view.now leaf begin marks.old marks.new }
     ensures next { IfSome result (λ next. IsNextWanted marks.new first next) }
-    ensures failed { IsNone result → PieceFailed source.now.snapshot.now (map D.faults doors.old) (map D.faults doors.new) page j }
+    ensures failed { IsNone result → PieceFailed source.now.view.now (map D.faults doors.old) (map D.faults doors.new) leaf.page leaf.version }
     ensures counted { IsNone result → HasRisen (sum_by D.faults doors.old) (sum_by D.faults doors.new) }
     ensures kept { CountsKept (map D.faults doors.old) (map D.faults doors.new) (sum_by D.faults doors.old) (sum_by D.faults doors.new) }
     ensures count { length doors.new ≡ length doors.old }
     ensures truth_stays { All D.is_true doors.old → All D.is_true doors.new }
 {
-    source.snapshot.page_size().stands();
-    if !leaf.meets(begin, out.len()) {
+    source.view.page_size().stands();
+    if !leaf.parts.meets(begin, out.len()) {
         return Some(first);
     }
-    if !fill_leaf(source, doors, j, page, leaf, begin, marks, out) {
+    if !fill_leaf(source, doors, leaf, begin, marks, out) {
         return None;
     }
     Some(first_marked(marks, first, true))
 }
 
-// Fills `out` with bytes of the page from its byte `begin` on, as that version has them, byte by byte as the marks say: from the
-// version's leaf of the page, whose parts are at hand, and along the backs for the bytes that it lacks. False where all doors of
-// one stored page failed.
+// Fills `out` with bytes of the leaf's page from its byte `begin` on, as the leaf's version has them, byte by byte as the marks say:
+// from this leaf, and along the backs for the bytes that it lacks. False where all doors of one stored page failed.
 fn fill_along<D: Door, L: Ledger>(
     source: &ReadSource,
     doors: &mut Doors<D>,
     steps: &mut Steps<L>,
-    version: u64,
-    page: u64,
-    version_parts: LeafParts,
+    head: LeafAt,
     begin: usize,
     marks: &mut [bool],
     out: &mut [u8],
 ) -> bool
-    requires here { IsVersionIn source.now.nodes.now source.now.houses.now source.now.snapshot.now }
+    requires here { IsVersionIn source.now.nodes.now source.now.houses.now source.now.view.now }
     requires doors { length doors.old ≡ length source.now.houses.now }
-    requires led { IsLedTo source.now.snapshot.now page version }
-    requires has { HasNodeFor source.now.snapshot.now version (page_range source.now.snapshot.now.page_size page) }
-    requires leaf { IsLeafOf source.now.snapshot.now version page version_parts }
-    requires fits { page * source.now.snapshot.now.page_size ≤ 2 ^ 40 }
-    requires within { begin + length out.old ≤ source.now.snapshot.now.page_size }
-    requires valid { begin + length out.old ≤ length (page_in source.now.snapshot.now version page) }
+    requires led { IsLedTo source.now.view.now head.page head.version }
+    requires has { HasNodeFor source.now.view.now head.version (page_range source.now.view.now.page_size head.page) }
+    requires leaf { IsLeafOf source.now.view.now head.version head.page head.parts }
+    requires fits { head.page * source.now.view.now.page_size ≤ 2 ^ 40 }
+    requires within { begin + length out.old ≤ source.now.view.now.page_size }
+    requires valid { begin + length out.old ≤ length (page_in source.now.view.now head.version head.page) }
     requires some { 1 ≤ length out.old }
     requires marked { length marks.old ≡ length out.old }
     ensures bytes { All D.is_true doors.old → IsTrue result
-        → out.new ≡ slice_range (page_in source.now.snapshot.now version page) begin (begin + length out.old) }
-    ensures steps { let s = source.now.snapshot.now in steps.new ≤ steps.old + backs_of s.page_size (falls s) version page }
-    ensures failed { IsFalse result → PageFailed source.now.snapshot.now (map D.faults doors.old) (map D.faults doors.new) page }
+        → out.new ≡ slice_range (page_in source.now.view.now head.version head.page) begin (begin + length out.old) }
+    ensures steps { let s = source.now.view.now in steps.new ≤ steps.old + backs_of s.page_size (falls s) head.version head.page }
+    ensures failed { IsFalse result → PageFailed source.now.view.now (map D.faults doors.old) (map D.faults doors.new) head.page }
     ensures counted { IsFalse result → HasRisen (sum_by D.faults doors.old) (sum_by D.faults doors.new) }
     ensures kept { CountsKept (map D.faults doors.old) (map D.faults doors.new) (sum_by D.faults doors.old) (sum_by D.faults doors.new) }
     ensures count { length doors.new ≡ length doors.old }
@@ -145,22 +152,27 @@ fn fill_along<D: Door, L: Ledger>(
     range_log::laws::no_holes();
     range_log::laws::newest_is_greatest();
     range_log::laws::backs_step();
-    source.snapshot.stands();
+    source.view.stands();
     mark_all(marks, true);
+    let page = head.page;
     let mut first = 0;
-    let mut at = version;
-    let mut parts = version_parts;
+    let mut version = head.version;
+    let mut parts = head.parts;
     loop {
-        let Some(next) = fill_wanted(source, doors, at, page, parts, begin, first, marks, out)
-        else {
+        let at = LeafAt {
+            version,
+            page,
+            parts,
+        };
+        let Some(next) = fill_wanted(source, doors, at, begin, first, marks, out) else {
             return false;
         };
         if next == out.len() {
             return true;
         }
         first = next;
-        at = parts.back;
-        parts = leaf(source.snapshot, source.nodes, at, page, steps);
+        version = parts.back;
+        parts = leaf(source.view, source.nodes, version, page, steps);
     }
 }
 
@@ -170,27 +182,25 @@ fn fill_ends<D: Door, L: Ledger>(
     source: &ReadSource,
     doors: &mut Doors<D>,
     steps: &mut Steps<L>,
-    version: u64,
-    page: u64,
-    version_parts: LeafParts,
+    head: LeafAt,
     begin: usize,
     marks: &mut [bool],
     out: &mut [u8],
 ) -> bool
-    requires here { IsVersionIn source.now.nodes.now source.now.houses.now source.now.snapshot.now }
+    requires here { IsVersionIn source.now.nodes.now source.now.houses.now source.now.view.now }
     requires doors { length doors.old ≡ length source.now.houses.now }
-    requires led { IsLedTo source.now.snapshot.now page version }
-    requires has { HasNodeFor source.now.snapshot.now version (page_range source.now.snapshot.now.page_size page) }
-    requires leaf { IsLeafOf source.now.snapshot.now version page version_parts }
-    requires fits { page * source.now.snapshot.now.page_size ≤ 2 ^ 40 }
-    requires within { begin + length out.old ≤ source.now.snapshot.now.page_size }
-    requires valid { begin + length out.old ≤ length (page_in source.now.snapshot.now version page) }
+    requires led { IsLedTo source.now.view.now head.page head.version }
+    requires has { HasNodeFor source.now.view.now head.version (page_range source.now.view.now.page_size head.page) }
+    requires leaf { IsLeafOf source.now.view.now head.version head.page head.parts }
+    requires fits { head.page * source.now.view.now.page_size ≤ 2 ^ 40 }
+    requires within { begin + length out.old ≤ source.now.view.now.page_size }
+    requires valid { begin + length out.old ≤ length (page_in source.now.view.now head.version head.page) }
     requires some { 1 ≤ length out.old }
     requires marked { length marks.old ≡ length out.old }
     ensures bytes { All D.is_true doors.old → IsTrue result
-        → out.new ≡ slice_range (page_in source.now.snapshot.now version page) begin (begin + length out.old) }
-    ensures steps { let s = source.now.snapshot.now in steps.new ≤ steps.old + backs_of s.page_size (falls s) version page }
-    ensures failed { IsFalse result → PageFailed source.now.snapshot.now (map D.faults doors.old) (map D.faults doors.new) page }
+        → out.new ≡ slice_range (page_in source.now.view.now head.version head.page) begin (begin + length out.old) }
+    ensures steps { let s = source.now.view.now in steps.new ≤ steps.old + backs_of s.page_size (falls s) head.version head.page }
+    ensures failed { IsFalse result → PageFailed source.now.view.now (map D.faults doors.old) (map D.faults doors.new) head.page }
     ensures counted { IsFalse result → HasRisen (sum_by D.faults doors.old) (sum_by D.faults doors.new) }
     ensures kept { CountsKept (map D.faults doors.old) (map D.faults doors.new) (sum_by D.faults doors.old) (sum_by D.faults doors.new) }
     ensures count { length doors.new ≡ length doors.old }
@@ -203,28 +213,34 @@ fn fill_ends<D: Door, L: Ledger>(
     range_log::laws::no_holes();
     range_log::laws::newest_is_greatest();
     range_log::laws::backs_step();
-    source.snapshot.stands();
+    source.view.stands();
     let mut gap = Gap {
         low: begin,
         high: begin + out.len(),
     };
-    let mut at = version;
-    let mut parts = version_parts;
+    let page = head.page;
+    let mut version = head.version;
+    let mut parts = head.parts;
     loop {
+        let at = LeafAt {
+            version,
+            page,
+            parts,
+        };
         if gap.is_split_by(&parts) {
             let wanted = &mut marks[gap.low - begin..gap.high - begin];
             let rest = &mut out[gap.low - begin..gap.high - begin];
-            return fill_along(source, doors, steps, at, page, parts, gap.low, wanted, rest);
+            return fill_along(source, doors, steps, at, gap.low, wanted, rest);
         }
-        let Some(left) = fill_end(source, doors, at, page, parts, gap, begin, out) else {
+        let Some(left) = fill_end(source, doors, at, gap, begin, out) else {
             return false;
         };
         if left.low == left.high {
             return true;
         }
         gap = left;
-        at = parts.back;
-        parts = leaf(source.snapshot, source.nodes, at, page, steps);
+        version = parts.back;
+        parts = leaf(source.view, source.nodes, version, page, steps);
     }
 }
 
@@ -241,19 +257,19 @@ pub(crate) fn fill_page<D: Door, L: Ledger>(
     marks: &mut [bool],
     out: &mut [u8],
 ) -> bool
-    requires here { IsVersionIn source.now.nodes.now source.now.houses.now source.now.snapshot.now }
+    requires here { IsVersionIn source.now.nodes.now source.now.houses.now source.now.view.now }
     requires doors { length doors.old ≡ length source.now.houses.now }
-    requires newest { newest ≡ newest_in source.now.snapshot.now (page_range source.now.snapshot.now.page_size page) }
-    requires has { HasNodeFor source.now.snapshot.now newest (page_range source.now.snapshot.now.page_size page) }
-    requires within { begin + length out.old ≤ source.now.snapshot.now.page_size }
-    requires valid { page * source.now.snapshot.now.page_size + begin + length out.old ≤ size_now source.now.snapshot.now }
+    requires newest { newest ≡ newest_in source.now.view.now (page_range source.now.view.now.page_size page) }
+    requires has { HasNodeFor source.now.view.now newest (page_range source.now.view.now.page_size page) }
+    requires within { begin + length out.old ≤ source.now.view.now.page_size }
+    requires valid { page * source.now.view.now.page_size + begin + length out.old ≤ size_now source.now.view.now }
     requires some { 1 ≤ length out.old }
     requires marked { length marks.old ≡ length out.old }
-    ensures bytes { let s = source.now.snapshot.now in
+    ensures bytes { let s = source.now.view.now in
         All D.is_true doors.old → IsTrue result → out.new ≡ bytes_at s (page * s.page_size + begin) (length out.old) }
-    ensures steps { let s = source.now.snapshot.now in
+    ensures steps { let s = source.now.view.now in
         steps.new ≤ steps.old + 1 + backs_of s.page_size (falls s) (length s.rows) page }
-    ensures failed { IsFalse result → PageFailed source.now.snapshot.now (map D.faults doors.old) (map D.faults doors.new) page }
+    ensures failed { IsFalse result → PageFailed source.now.view.now (map D.faults doors.old) (map D.faults doors.new) page }
     ensures counted { IsFalse result → HasRisen (sum_by D.faults doors.old) (sum_by D.faults doors.new) }
     ensures kept { CountsKept (map D.faults doors.old) (map D.faults doors.new) (sum_by D.faults doors.old) (sum_by D.faults doors.new) }
     ensures count { length doors.new ≡ length doors.old }
@@ -264,10 +280,15 @@ pub(crate) fn fill_page<D: Door, L: Ledger>(
     range_log::laws::page_bytes_stay();
     range_log::laws::newest_is_greatest();
     range_log::laws::backs_step();
-    source.snapshot.stands();
-    let parts = leaf(source.snapshot, source.nodes, newest, page, steps);
+    source.view.stands();
+    let parts = leaf(source.view, source.nodes, newest, page, steps);
+    let head = LeafAt {
+        version: newest,
+        page,
+        parts,
+    };
     if parts.has_all(begin, out.len()) {
-        return take_leaf(source, doors, newest, page, parts, begin, out);
+        return take_leaf(source, doors, head, begin, out);
     }
-    fill_ends(source, doors, steps, newest, page, parts, begin, marks, out)
+    fill_ends(source, doors, steps, head, begin, marks, out)
 }

@@ -68,32 +68,32 @@ pub(crate) fn fill_piece<D: Door>(
     marks: &mut [bool],
     out: &mut [u8],
 ) -> bool
-    requires here { IsVersionIn source.now.nodes.now source.now.houses.now source.now.snapshot.now }
+    requires here { IsVersionIn source.now.nodes.now source.now.houses.now source.now.view.now }
     requires doors { length doors.old ≡ length source.now.houses.now }
-    requires version { (1 ≤ j) × (j ≤ length source.now.snapshot.now.rows) }
-    requires number { piece.page < length (stored_of (row_at source.now.snapshot.now.rows j)) }
-    requires fits { piece.from + piece.len ≤ length (stored_bytes source.now.snapshot.now j piece.page) }
-    requires placed { start + piece.len ≤ source.now.snapshot.now.page_size }
-    requires within { begin + length out.old ≤ source.now.snapshot.now.page_size }
+    requires version { (1 ≤ j) × (j ≤ length source.now.view.now.rows) }
+    requires number { piece.page < length (stored_of (row_at source.now.view.now.rows j)) }
+    requires fits { piece.from + piece.len ≤ length (stored_bytes source.now.view.now j piece.page) }
+    requires placed { start + piece.len ≤ source.now.view.now.page_size }
+    requires within { begin + length out.old ≤ source.now.view.now.page_size }
     requires marked { length marks.old ≡ length out.old }
     ensures overlaid { All D.is_true doors.old → IsTrue result
-        → Overlaid start piece.len piece.from begin (stored_bytes source.now.snapshot.now j piece.page) marks.old out.old out.new }
+        → Overlaid start piece.len piece.from begin (stored_bytes source.now.view.now j piece.page) marks.old out.old out.new }
     ensures taken { IsTrue result → Taken start piece.len begin marks.old marks.new }
-    ensures failed { IsFalse result → StoredFailed source.now.snapshot.now (map D.faults doors.old) (map D.faults doors.new) j piece.page }
+    ensures failed { IsFalse result → StoredFailed source.now.view.now (map D.faults doors.old) (map D.faults doors.new) j piece.page }
     ensures counted { IsFalse result → HasRisen (sum_by D.faults doors.old) (sum_by D.faults doors.new) }
     ensures kept { CountsKept (map D.faults doors.old) (map D.faults doors.new) (sum_by D.faults doors.old) (sum_by D.faults doors.new) }
     ensures count { length doors.new ≡ length doors.old }
     ensures truth_stays { All D.is_true doors.old → All D.is_true doors.new }
 {
-    source.snapshot.page_size().stands();
+    source.view.page_size().stands();
     let end = (start + piece.len as usize).min(begin + out.len());
     let low = start.max(begin);
     if end <= low {
         return true;
     }
-    let snapshot = source.snapshot;
-    snapshot.stands();
-    let stored = snapshot.page(j, piece.page);
+    let view = source.view;
+    view.stands();
+    let stored = view.page(j, piece.page);
     let _whole = stored.len();
     let from = piece.from + (low - start) as u32;
     fill_marked(

@@ -13,10 +13,10 @@ use snapshot::{RowView, View};
 use std::sync::ledger::Ledger;
 use tree_geom::Steps;
 
-/// The version that is read, and the houses of its nodes and pages.
+/// What a read goes through: the version that is read, the house of its nodes, and the houses of its stored pages.
 #[derive(Drop)]
-pub(crate) struct ReadSource<'a> {
-    pub snapshot: &'a View<'a>,
+pub struct ReadSource<'a> {
+    pub view: &'a View<'a>,
     pub nodes: &'a NodeHouse,
     pub houses: &'a Houses,
 }
@@ -30,6 +30,14 @@ pub(crate) struct LeafParts {
     pub second: Piece,
     pub back: u64,
     pub depth: u32,
+}
+
+/// A leaf with its place: it is that of the page in the row of this version's update.
+#[derive(Clone, Copy)]
+pub(crate) struct LeafAt {
+    pub version: u64,
+    pub page: u64,
+    pub parts: LeafParts,
 }
 
 impl LeafParts {

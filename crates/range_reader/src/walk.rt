@@ -28,22 +28,22 @@ pub(crate) fn walk<D: Door, L: Ledger>(
     from: u64,
     out: &mut [u8],
 ) -> Result<(), u64>
-    requires here { IsVersionIn source.now.nodes.now source.now.houses.now source.now.snapshot.now }
+    requires here { IsVersionIn source.now.nodes.now source.now.houses.now source.now.view.now }
     requires doors { length doors.old ≡ length source.now.houses.now }
-    requires marks { length marks.old ≡ source.now.snapshot.now.page_size }
-    requires newest { at ≡ newest_in source.now.snapshot.now range }
-    requires has { HasNodeFor source.now.snapshot.now at range }
+    requires marks { length marks.old ≡ source.now.view.now.page_size }
+    requires newest { at ≡ newest_in source.now.view.now range }
+    requires has { HasNodeFor source.now.view.now at range }
     requires begins { range.offset ≤ from }
     requires ends { from + length out.old ≤ range.offset + range.size }
     requires fits { range.offset + range.size ≤ 2 ^ 40 }
-    requires valid { from + length out.old ≤ size_now source.now.snapshot.now }
+    requires valid { from + length out.old ≤ size_now source.now.view.now }
     requires some { 1 ≤ length out.old }
-    ensures bytes { All D.is_true doors.old → OnOk result (out.new ≡ bytes_at source.now.snapshot.now from (length out.old)) }
-    ensures steps { let s = source.now.snapshot.now in
+    ensures bytes { All D.is_true doors.old → OnOk result (out.new ≡ bytes_at source.now.view.now from (length out.old)) }
+    ensures steps { let s = source.now.view.now in
         (h q first last : ℕ) → range ≡ tree_range s.page_size h q → first * s.page_size ≤ from
         → from + length out.old ≤ (last + 1) * s.page_size
         → steps.new ≤ steps.old + nodes_visited h q first last + backs_in s from (length out.old) }
-    ensures failed { IfErr result (λ page. PageFailedIn source.now.snapshot.now from (length out.old) (map D.faults doors.old) (map D.faults doors.new) page) }
+    ensures failed { IfErr result (λ page. PageFailedIn source.now.view.now from (length out.old) (map D.faults doors.old) (map D.faults doors.new) page) }
     ensures counted { IfErr result (λ _. HasRisen (sum_by D.faults doors.old) (sum_by D.faults doors.new)) }
     ensures kept { CountsKept (map D.faults doors.old) (map D.faults doors.new) (sum_by D.faults doors.old) (sum_by D.faults doors.new) }
     ensures count { length doors.new ≡ length doors.old }
@@ -52,8 +52,8 @@ pub(crate) fn walk<D: Door, L: Ledger>(
     range_log::walks::links_step();
     range_log::walks::visited_are_few();
     range_log::laws::page_bytes_stay();
-    source.snapshot.stands();
-    let size = source.snapshot.page_size().bytes();
+    source.view.stands();
+    let size = source.view.page_size().bytes();
     if range.size == size {
         let page = range.offset / size;
         let begin = (from - range.offset) as usize;
@@ -63,7 +63,7 @@ pub(crate) fn walk<D: Door, L: Ledger>(
             false => Err(page),
         };
     }
-    let (left, right) = links(source.snapshot, source.nodes, at, range, steps);
+    let (left, right) = links(source.view, source.nodes, at, range, steps);
     let (low, high) = halves(range);
     let end = from + out.len() as u64;
     if end <= high.offset {
@@ -89,30 +89,30 @@ pub(crate) fn walk_to_page<D: Door, L: Ledger>(
     from: u64,
     out: &mut [u8],
 ) -> Result<(), u64>
-    requires here { IsVersionIn source.now.nodes.now source.now.houses.now source.now.snapshot.now }
+    requires here { IsVersionIn source.now.nodes.now source.now.houses.now source.now.view.now }
     requires doors { length doors.old ≡ length source.now.houses.now }
-    requires marks { length marks.old ≡ source.now.snapshot.now.page_size }
-    requires known { All (IsKnown source.now.snapshot.now) known.old }
-    requires levels { levels ≡ height_of source.now.snapshot.now.page_size (size_now source.now.snapshot.now) }
+    requires marks { length marks.old ≡ source.now.view.now.page_size }
+    requires known { All (IsKnown source.now.view.now) known.old }
+    requires levels { levels ≡ height_of source.now.view.now.page_size (size_now source.now.view.now) }
     requires low { levels ≤ 38 }
-    requires valid { from + length out.old ≤ size_now source.now.snapshot.now }
+    requires valid { from + length out.old ≤ size_now source.now.view.now }
     requires some { 1 ≤ length out.old }
-    requires one_page { from % source.now.snapshot.now.page_size + length out.old ≤ source.now.snapshot.now.page_size }
-    ensures bytes { All D.is_true doors.old → OnOk result (out.new ≡ bytes_at source.now.snapshot.now from (length out.old)) }
-    ensures steps { steps.new ≤ steps.old + bound source.now.snapshot.now from (length out.old) }
-    ensures failed { IfErr result (λ page. PageFailedIn source.now.snapshot.now from (length out.old) (map D.faults doors.old) (map D.faults doors.new) page) }
+    requires one_page { from % source.now.view.now.page_size + length out.old ≤ source.now.view.now.page_size }
+    ensures bytes { All D.is_true doors.old → OnOk result (out.new ≡ bytes_at source.now.view.now from (length out.old)) }
+    ensures steps { steps.new ≤ steps.old + bound source.now.view.now from (length out.old) }
+    ensures failed { IfErr result (λ page. PageFailedIn source.now.view.now from (length out.old) (map D.faults doors.old) (map D.faults doors.new) page) }
     ensures counted { IfErr result (λ _. HasRisen (sum_by D.faults doors.old) (sum_by D.faults doors.new)) }
     ensures kept { CountsKept (map D.faults doors.old) (map D.faults doors.new) (sum_by D.faults doors.old) (sum_by D.faults doors.new) }
     ensures count { length doors.new ≡ length doors.old }
     ensures truth_stays { All D.is_true doors.old → All D.is_true doors.new }
-    ensures known { All (IsKnown source.now.snapshot.now) known.new }
+    ensures known { All (IsKnown source.now.view.now) known.new }
     ensures room { length known.new ≡ length known.old }
 {
     range_log::laws::page_bytes_stay();
-    source.snapshot.stands();
-    let snapshot = source.snapshot;
-    let newest = newest_knowing(snapshot, source.nodes, known, levels, from, steps);
-    let size = snapshot.page_size().bytes();
+    source.view.stands();
+    let view = source.view;
+    let newest = newest_knowing(view, source.nodes, known, levels, from, steps);
+    let size = view.page_size().bytes();
     let page = from / size;
     let begin = (from % size) as usize;
     let wanted = &mut marks[..out.len()];

@@ -1,5 +1,6 @@
 -- A range of a version, by the updates that its rows tell.
-use Rattle.std.proofs.Common.{◌≡◌, ℕ, ◌+◌, ◌-◌, ◌*◌, ◌/◌, ◌≤◌, List, ◌++◌, length, take, drop, arith, ap, sym, ◌∙◌}
+use Rattle.std.proofs.Common.{◌≡◌, ℕ, ◌+◌, ◌-◌, ◌*◌, ◌/◌, ◌<◌, ◌≤◌, List, ◌++◌, length, take, drop, Result, Ok, Err, inl, inr, arith, ap, sym, ◌∙◌}
+use Rattle.std.proofs.lemmas.Bool.{cases_lt}
 use Rattle.std.proofs.lemmas.List.{take-append-drop, length-map}
 use Rattle.std.proofs.Math.Nat.{mul-div-le, lt-mul-div-succ, mul-le-mul_left}
 use Rattle.blob_model.specs.Content.{Update, content, size_of}
@@ -10,7 +11,12 @@ use Rattle.range_log.specs.Laws.{RowsStay, ExtentsStand}
 use Rattle.snapshot.specs.Versions.{Version, size_now, updates_of, update_of_row}
 use Rattle.snapshot.specs.Laws.{TellUpdates}
 use Rattle.range_reader.specs.Reading.{bytes_at, bound}
-use Rattle.session_parts.specs.Ranges.{IsMet}
+use Rattle.range_reader.specs.declared.reader.ReadFault.{ReadFault}
+use Rattle.range_reader.specs.declared.reader.ReadFault.TheVariants as read_fault
+use Rattle.range_reader.specs.Answers.{ReadAnswers}
+use Rattle.session_parts.specs.Ranges.{IsMet, RangeAnswers, RangeSteps, RangesAnswers}
+use Rattle.session_parts.specs.declared.reading.RangeFault.{RangeFault}
+use Rattle.session_parts.specs.declared.reading.RangeFault.TheVariants.{RangePastSize, PageFault}
 
 -- the size is that of the updates
 pub size_told : (s : Version) (us : List Update) → TellUpdates s.page_size us s.rows → size_now s ≡ size_of us (length s.rows)
@@ -42,3 +48,85 @@ met_between p o n i least some from upto =
       begins = omega (arith, low, mul-div-le (o + n - 1) p);
       ends = omega (arith, high, lt-mul-div-succ o {b = p} (omega arith));
     }
+
+-- its node steps are told by the updates too
+pub steps_told : RowsStay → ExtentsStand → (s : Version) (o n before now : ℕ) → now ≤ before + bound s o n → (size_now s < o + n → now ≡ before) → RangeSteps s o n before now
+steps_told stay stand s o n before now few none = record {
+  few = λ us tell. omega (arith, few, bound_told stay stand s us o n tell);
+  none_past = λ us tell past. none (omega (arith, past, size_told s us tell));
+}
+
+-- ---- and so is what it answers
+module _ (s : Version) (o n : ℕ) (before now : List ℕ) (sum_before sum_now : ℕ) where
+  abbrev Read : {A : Type 0} → Result A ReadFault → Type 0
+  Read result = ReadAnswers s o n before now sum_before sum_now result
+
+  abbrev Told : {A : Type 0} → Result A RangeFault → Type 0
+  Told result = RangeAnswers s o n before now sum_before sum_now result
+
+  pub told_ok : {A B : Type 0} (x : A) (y : B) → Read (Ok x) → Told (Ok y)
+  told_ok x y read = record {
+    within = λ us tell. elim (cases_lt (size_now s) (o + n)) [
+      | inl past ↦ let other = read.refused past in cc
+      | inr within ↦ omega (arith, within, size_told s us tell)
+    ];
+    refused = λ us tell past. let other = read.refused (omega (arith, past, size_told s us tell)) in cc;
+    past = λ us tell. tt;
+    lost_within = λ us tell. tt;
+    page = tt;
+    failed = tt;
+    counted = tt;
+  }
+
+  pub told_past : {A B : Type 0} (end size : ℕ) → Read {A = A} (Err (read_fault.RangePastSize end size)) → Told {A = B} (Err (RangePastSize end size))
+  told_past end size read = record {
+    within = λ us tell. tt;
+    refused = λ us tell past. let told = size_told s us tell in let is = read.refused (omega (arith, past, told)) in cc;
+    past = λ us tell. omega (arith, read.past, size_told s us tell);
+    lost_within = λ us tell. tt;
+    page = tt;
+    failed = tt;
+    counted = tt;
+  }
+
+  pub told_lost : {A B : Type 0} (page : ℕ) → 4 ≤ s.page_size → Read {A = A} (Err (read_fault.PageFault page)) → Told {A = B} (Err (PageFault page))
+  told_lost page least read = record {
+    within = λ us tell. tt;
+    refused = λ us tell past. let other = read.refused (omega (arith, past, size_told s us tell)) in cc;
+    past = λ us tell. tt;
+    lost_within = λ us tell. elim (cases_lt (size_now s) (o + n)) [
+      | inl past ↦ let other = read.refused past in cc
+      | inr within ↦ omega (arith, within, size_told s us tell)
+    ];
+    page = met_between s.page_size o n page least read.some read.failed.from read.failed.upto;
+    failed = read.failed;
+    counted = read.counted;
+  }
+
+  -- the same of a call that hands it on
+  pub same_ok : {A B : Type 0} (x : A) (y : B) → Told (Ok x) → Told (Ok y)
+  same_ok x y told = record {
+    within = told.within;
+    refused = λ us tell past. let other = told.refused us tell past in cc;
+    past = λ us tell. tt;
+    lost_within = λ us tell. tt;
+    page = tt;
+    failed = tt;
+    counted = tt;
+  }
+
+  pub same_fault : {A B : Type 0} (fault : RangeFault) → Told {A = A} (Err fault) → Told {A = B} (Err fault)
+  same_fault fault told = record {
+    within = λ us tell. tt;
+    refused = λ us tell past. let is = told.refused us tell past in cc;
+    past = told.past;
+    lost_within = told.lost_within;
+    page = told.page;
+    failed = told.failed;
+    counted = told.counted;
+  }
+
+-- and of many ranges
+pub same_ranges : {A B : Type 0} (s : Version) (ranges : List (ℕ × ℕ)) (before now : List ℕ) (sum_before sum_now : ℕ) (fault : RangeFault)
+    → RangesAnswers {A = A} s ranges before now sum_before sum_now (Err fault) → RangesAnswers {A = B} s ranges before now sum_before sum_now (Err fault)
+same_ranges s ranges before now sum_before sum_now fault told = record { past = told.past; page = told.page; failed = told.failed; counted = told.counted }

@@ -1,8 +1,10 @@
 -- Ranges of a version, and why one is not read.
-use Rattle.std.specs.Prelude.{ℕ, ◌+◌, ◌*◌, ◌<◌, ◌≤◌, nat_lt, if◌then◌else◌, List, [], ◌∷◌, ◌++◌, take, drop, sum_by, Option, Some, None, Contains}
-use Rattle.blob_model.specs.Content.{Update}
+use Rattle.std.specs.Prelude.{◌≡◌, ◌≢◌, ℕ, ◌+◌, ◌*◌, ◌<◌, ◌≤◌, nat_lt, if◌then◌else◌, List, [], ◌∷◌, ◌++◌, length, take, drop, sum_by, Option, Some, None, Contains, Result, Err, OnOk, IfErr}
+use Rattle.blob_model.specs.Content.{Update, size_of}
 use Rattle.range_log.specs.Extents.{Extent}
+use Rattle.range_log.specs.Updates.{extents}
 use Rattle.range_log.specs.Visits.{visits}
+use Rattle.page_store.specs.Count.{HasRisen}
 use Rattle.snapshot.specs.Versions.{Version}
 use Rattle.snapshot.specs.Laws.{TellUpdates}
 use Rattle.range_reader.specs.Faults.{PageFailedIn}
@@ -62,3 +64,26 @@ abbrev pub OnPageLost : RangeFault → (ℕ → Type 0) → Type 0
 OnPageLost (RangePastSize end size) P = Unit {0}
 OnPageLost (PageFault page) P = P page
 OnPageLost NoMemory P = Unit {0}
+
+-- Why a read of n bytes of the version from byte o on gives none, by the doors' counts before and now: it ends past the size, exactly where it does,
+-- or all doors failed of a stored page that one of the pages of the bytes needs.
+pub record RangeAnswers {A : Type 0} (s : Version) (o n : ℕ) (before now : List ℕ) (sum_before sum_now : ℕ) (result : Result A RangeFault) : Type 0 where
+  pub within : OverUpdates s (λ us. OnOk result (o + n ≤ size_of us (length s.rows)))
+  pub refused : OverUpdates s (λ us. size_of us (length s.rows) < o + n → result ≡ Err (RangePastSize (o + n) (size_of us (length s.rows))))
+  pub past : OverUpdates s (λ us. IfErr result (λ fault. OnRangePast fault (size_of us (length s.rows) < o + n)))
+  pub lost_within : OverUpdates s (λ us. IfErr result (λ fault. OnPageLost fault (λ _. o + n ≤ size_of us (length s.rows))))
+  pub page : IfErr result (λ fault. OnPageLost fault (IsMet s.page_size o n))
+  pub failed : IfErr result (λ fault. OnPageLost fault (PageFailedIn s o n before now))
+  pub counted : IfErr result (λ fault. OnPageLost fault (λ _. HasRisen sum_before sum_now))
+
+-- the node steps of it: few, and none where it ends past the size
+pub record RangeSteps (s : Version) (o n : ℕ) (before now : ℕ) : Type 0 where
+  pub few : OverUpdates s (λ us. now ≤ before + visits s.page_size (extents us) (length s.rows) o n)
+  pub none_past : OverUpdates s (λ us. size_of us (length s.rows) < o + n → now ≡ before)
+
+-- the same of a read of many ranges
+pub record RangesAnswers {A : Type 0} (s : Version) (ranges : List (ℕ × ℕ)) (before now : List ℕ) (sum_before sum_now : ℕ) (result : Result A RangeFault) : Type 0 where
+  pub past : OverUpdates s (λ us. IfErr result (λ fault. OnRangePast fault (first_end_past (size_of us (length s.rows)) ranges ≢ None)))
+  pub page : IfErr result (λ fault. OnPageLost fault (IsMetByOne s.page_size ranges))
+  pub failed : IfErr result (λ fault. OnPageLost fault (PageFailedInOne s ranges before now))
+  pub counted : IfErr result (λ fault. OnPageLost fault (λ _. HasRisen sum_before sum_now))

@@ -1,21 +1,16 @@
 // Ranges of a version, read into a buffer of their own.
-ghost use Rattle.std.specs.Prelude.{◌≡◌, ◌≢◌, ℕ, ◌+◌, ◌<◌, ◌≤◌, length, take, drop, map, sum_by, All, IfOk, OnOk, IfErr, Err, None, Some};
+ghost use Rattle.std.specs.Prelude.{◌≡◌, ◌≢◌, ℕ, ◌+◌, ◌≤◌, length, take, drop, map, sum_by, All, IfOk, OnOk, IfErr, Err, None, Some};
 ghost use Rattle.blob_model.specs.Content.{content, size_of};
 ghost use Rattle.range_log.specs.Updates.{extents};
-ghost use Rattle.range_log.specs.Visits.{visits};
-ghost use Rattle.page_store.specs.Count.{HasRisen};
-ghost use Rattle.page_fan.specs.Counts.{NoneFell};
 ghost use Rattle.snapshot.specs.Versions.{IsVersionIn};
 ghost use Rattle.range_reader.specs.Reading.{IsKnown};
-ghost use Rattle.range_reader.specs.Faults.{PageFailedIn};
-ghost use Rattle.session_parts.specs.Ranges.{OverUpdates, IsMet, IsMetByOne, PageFailedInOne, OnRangePast, OnPageLost, first_end_past, joined, bytes_in, visits_of};
+ghost use Rattle.range_reader.specs.Faults.{CountsKept};
+ghost use Rattle.session_parts.specs.Ranges.{OverUpdates, RangeAnswers, RangeSteps, RangesAnswers, first_end_past, joined, bytes_in, visits_of};
 
 use blob_model::Bytes;
-use node_store::NodeHouse;
 use page_fan::Doors;
-use page_store::{Door, Houses};
-use range_reader::{KnownNode, ReadFault, ReadRoom, read_version};
-use snapshot::View;
+use page_store::Door;
+use range_reader::{KnownNode, ReadFault, ReadRoom, ReadSource, read_version};
 use std::alloc::Global;
 use std::sync::ledger::Ledger;
 use thiserror::Error;
@@ -45,9 +40,7 @@ pub enum RangeFault {
 /// The clause `steps` bounds its node steps; a range past the size takes none. `room` is one for pages of the snapshot's size, and
 /// `known` has nodes of this version that earlier reads came past.
 fn read_into<D: Door, L: Ledger>(
-    snapshot: &View,
-    nodes: &NodeHouse,
-    houses: &Houses,
+    source: &ReadSource,
     doors: &mut Doors<D>,
     room: &mut ReadRoom,
     known: &mut [KnownNode],
@@ -55,37 +48,27 @@ fn read_into<D: Door, L: Ledger>(
     out: &mut [u8],
     steps: &mut Steps<L>,
 ) -> Result<(), RangeFault>
-    requires here { IsVersionIn nodes.now houses.now snapshot.now }
-    requires doors { length doors.old ≡ length houses.now }
-    requires room { length room.old ≡ snapshot.now.page_size }
-    requires known { All (IsKnown snapshot.now) known.old }
+    requires here { IsVersionIn source.now.nodes.now source.now.houses.now source.now.view.now }
+    requires doors { length doors.old ≡ length source.now.houses.now }
+    requires room { length room.old ≡ source.now.view.now.page_size }
+    requires known { All (IsKnown source.now.view.now) known.old }
     requires true_doors { All D.is_true doors.old }
-    ensures bytes { OverUpdates snapshot.now (λ us. OnOk result (out.new ≡ take (length out.old) (drop offset (content us (length snapshot.now.rows))))) }
-    ensures within { OverUpdates snapshot.now (λ us. OnOk result (offset + length out.old ≤ size_of us (length snapshot.now.rows))) }
-    ensures refused { OverUpdates snapshot.now (λ us. size_of us (length snapshot.now.rows) < offset + length out.old
-        → result ≡ Err (RangeFault.RangePastSize (offset + length out.old) (size_of us (length snapshot.now.rows)))) }
-    ensures past { OverUpdates snapshot.now (λ us. IfErr result (λ fault. OnRangePast fault (size_of us (length snapshot.now.rows) < offset + length out.old))) }
-    ensures lost_within { OverUpdates snapshot.now (λ us. IfErr result (λ fault. OnPageLost fault (λ _. offset + length out.old ≤ size_of us (length snapshot.now.rows)))) }
-    ensures page { IfErr result (λ fault. OnPageLost fault (IsMet snapshot.now.page_size offset (length out.old))) }
-    ensures failed { IfErr result (λ fault. OnPageLost fault (PageFailedIn snapshot.now offset (length out.old) (map D.faults doors.old) (map D.faults doors.new))) }
-    ensures counted { IfErr result (λ fault. OnPageLost fault (λ _. HasRisen (sum_by D.faults doors.old) (sum_by D.faults doors.new))) }
+    ensures bytes { OverUpdates source.now.view.now (λ us. OnOk result (out.new ≡ take (length out.old) (drop offset (content us (length source.now.view.now.rows))))) }
+    ensures answers { RangeAnswers source.now.view.now offset (length out.old) (map D.faults doors.old) (map D.faults doors.new)
+        (sum_by D.faults doors.old) (sum_by D.faults doors.new) result }
     ensures memory { IfErr result (λ fault. fault ≢ RangeFault.NoMemory) }
-    ensures steps { OverUpdates snapshot.now (λ us. steps.new ≤ steps.old + visits snapshot.now.page_size (extents us) (length snapshot.now.rows) offset (length out.old)) }
-    ensures no_steps { OverUpdates snapshot.now (λ us. size_of us (length snapshot.now.rows) < offset + length out.old → steps.new ≡ steps.old) }
-    ensures none_fell { NoneFell (map D.faults doors.old) (map D.faults doors.new) }
-    ensures sum_never_falls { sum_by D.faults doors.old ≤ sum_by D.faults doors.new }
+    ensures steps { RangeSteps source.now.view.now offset (length out.old) steps.old steps.new }
+    ensures kept { CountsKept (map D.faults doors.old) (map D.faults doors.new) (sum_by D.faults doors.old) (sum_by D.faults doors.new) }
     ensures doors_stay { length doors.new ≡ length doors.old }
     ensures room_stays { length room.new ≡ length room.old }
     ensures truth_stays { All D.is_true doors.new }
-    ensures known { All (IsKnown snapshot.now) known.new }
+    ensures known { All (IsKnown source.now.view.now) known.new }
 {
     range_log::laws::older_versions_stay();
     range_log::laws::page_bytes_stay();
-    snapshot.page_size().stands();
-    snapshot.stands();
-    match read_version(
-        snapshot, nodes, houses, doors, room, known, offset, out, steps,
-    ) {
+    source.view.page_size().stands();
+    source.view.stands();
+    match read_version(source, doors, room, known, offset, out, steps) {
         Ok(()) => Ok(()),
         Err(ReadFault::RangePastSize { end, size }) => Err(RangeFault::RangePastSize { end, size }),
         Err(ReadFault::PageFault(page)) => Err(RangeFault::PageFault(page)),
@@ -101,45 +84,28 @@ fn read_into<D: Door, L: Ledger>(
 /// for pages of the snapshot's size, and stays one.
 pub fn read_range<D: Door, L: Ledger>(
     alloc: Global,
-    snapshot: &View,
-    nodes: &NodeHouse,
-    houses: &Houses,
+    source: &ReadSource,
     doors: &mut Doors<D>,
     room: &mut ReadRoom,
     offset: u64,
     count: u64,
     steps: &mut Steps<L>,
 ) -> Result<Bytes, RangeFault>
-    requires here { IsVersionIn nodes.now houses.now snapshot.now }
-    requires doors { length doors.old ≡ length houses.now }
-    requires room { length room.old ≡ snapshot.now.page_size }
+    requires here { IsVersionIn source.now.nodes.now source.now.houses.now source.now.view.now }
+    requires doors { length doors.old ≡ length source.now.houses.now }
+    requires room { length room.old ≡ source.now.view.now.page_size }
     requires true_doors { All D.is_true doors.old }
 
-    // Where all is well.
-    ensures bytes { OverUpdates snapshot.now (λ us. IfOk result (λ bytes. bytes ≡ take count (drop offset (content us (length snapshot.now.rows))))) }
-    ensures within { OverUpdates snapshot.now (λ us. OnOk result (offset + count ≤ size_of us (length snapshot.now.rows))) }
-
-    // Why a fault is answered.
-    ensures refused { OverUpdates snapshot.now (λ us. size_of us (length snapshot.now.rows) < offset + count
-        → result ≡ Err (RangeFault.RangePastSize (offset + count) (size_of us (length snapshot.now.rows)))) }
-    ensures past { OverUpdates snapshot.now (λ us. IfErr result (λ fault. OnRangePast fault (size_of us (length snapshot.now.rows) < offset + count))) }
-    ensures lost_within { OverUpdates snapshot.now (λ us. IfErr result (λ fault. OnPageLost fault (λ _. offset + count ≤ size_of us (length snapshot.now.rows)))) }
-    ensures page { IfErr result (λ fault. OnPageLost fault (IsMet snapshot.now.page_size offset count)) }
-    ensures failed { IfErr result (λ fault. OnPageLost fault (PageFailedIn snapshot.now offset count (map D.faults doors.old) (map D.faults doors.new))) }
-    ensures counted { IfErr result (λ fault. OnPageLost fault (λ _. HasRisen (sum_by D.faults doors.old) (sum_by D.faults doors.new))) }
-
-    // What it costs.
-    ensures steps { OverUpdates snapshot.now (λ us. steps.new ≤ steps.old + visits snapshot.now.page_size (extents us) (length snapshot.now.rows) offset count) }
-    ensures no_steps { OverUpdates snapshot.now (λ us. size_of us (length snapshot.now.rows) < offset + count → steps.new ≡ steps.old) }
-
-    // What becomes of the doors and the room.
-    ensures none_fell { NoneFell (map D.faults doors.old) (map D.faults doors.new) }
-    ensures sum_never_falls { sum_by D.faults doors.old ≤ sum_by D.faults doors.new }
+    ensures bytes { OverUpdates source.now.view.now (λ us. IfOk result (λ bytes. bytes ≡ take count (drop offset (content us (length source.now.view.now.rows))))) }
+    ensures answers { RangeAnswers source.now.view.now offset count (map D.faults doors.old) (map D.faults doors.new)
+        (sum_by D.faults doors.old) (sum_by D.faults doors.new) result }
+    ensures steps { RangeSteps source.now.view.now offset count steps.old steps.new }
+    ensures kept { CountsKept (map D.faults doors.old) (map D.faults doors.new) (sum_by D.faults doors.old) (sum_by D.faults doors.new) }
     ensures doors_stay { length doors.new ≡ length doors.old }
     ensures room_stays { length room.new ≡ length room.old }
     ensures truth_stays { All D.is_true doors.new }
 {
-    let size = snapshot.size();
+    let size = source.view.size();
     let end = u128::from(offset) + u128::from(count);
     if end > u128::from(size) {
         return Err(RangeFault::RangePastSize { end, size });
@@ -148,17 +114,7 @@ pub fn read_range<D: Door, L: Ledger>(
         return Err(RangeFault::NoMemory);
     };
     let buffer = out.as_mut_slice();
-    match read_into(
-        snapshot,
-        nodes,
-        houses,
-        doors,
-        room,
-        &mut [],
-        offset,
-        buffer,
-        steps,
-    ) {
+    match read_into(source, doors, room, &mut [], offset, buffer, steps) {
         Ok(()) => Ok(Bytes::of(out)),
         Err(fault) => Err(fault),
     }
@@ -181,9 +137,7 @@ pub fn first_past(size: u64, ranges: &[(u64, u64)]) -> Option<u128>
 // Fills a buffer with the bytes of these ranges of the version, one behind the other. Of the inner nodes that
 // several of them lie below, those that `known` has places for are asked for once.
 fn fill_ranges<D: Door, L: Ledger>(
-    snapshot: &View,
-    nodes: &NodeHouse,
-    houses: &Houses,
+    source: &ReadSource,
     doors: &mut Doors<D>,
     room: &mut ReadRoom,
     known: &mut [KnownNode],
@@ -191,20 +145,18 @@ fn fill_ranges<D: Door, L: Ledger>(
     out: &mut [u8],
     steps: &mut Steps<L>,
 ) -> Result<(), RangeFault>
-    requires here { IsVersionIn nodes.now houses.now snapshot.now }
-    requires doors { length doors.old ≡ length houses.now }
-    requires room { length room.old ≡ snapshot.now.page_size }
-    requires known { All (IsKnown snapshot.now) known.old }
+    requires here { IsVersionIn source.now.nodes.now source.now.houses.now source.now.view.now }
+    requires doors { length doors.old ≡ length source.now.houses.now }
+    requires room { length room.old ≡ source.now.view.now.page_size }
+    requires known { All (IsKnown source.now.view.now) known.old }
     requires true_doors { All D.is_true doors.old }
     requires whole { length out.old ≡ bytes_in ranges.now }
-    ensures bytes { OverUpdates snapshot.now (λ us. OnOk result (out.new ≡ joined (content us (length snapshot.now.rows)) ranges.now)) }
-    ensures past { OverUpdates snapshot.now (λ us. IfErr result (λ fault. OnRangePast fault (first_end_past (size_of us (length snapshot.now.rows)) ranges.now ≢ None))) }
-    ensures page { IfErr result (λ fault. OnPageLost fault (IsMetByOne snapshot.now.page_size ranges.now)) }
-    ensures failed { IfErr result (λ fault. OnPageLost fault (PageFailedInOne snapshot.now ranges.now (map D.faults doors.old) (map D.faults doors.new))) }
-    ensures counted { IfErr result (λ fault. OnPageLost fault (λ _. HasRisen (sum_by D.faults doors.old) (sum_by D.faults doors.new))) }
+    ensures bytes { OverUpdates source.now.view.now (λ us. OnOk result (out.new ≡ joined (content us (length source.now.view.now.rows)) ranges.now)) }
+    ensures answers { RangesAnswers source.now.view.now ranges.now (map D.faults doors.old) (map D.faults doors.new)
+        (sum_by D.faults doors.old) (sum_by D.faults doors.new) result }
     ensures memory { IfErr result (λ fault. fault ≢ RangeFault.NoMemory) }
-    ensures steps { OverUpdates snapshot.now (λ us. steps.new ≤ steps.old + visits_of snapshot.now.page_size (extents us) (length snapshot.now.rows) ranges.now) }
-    ensures sum_never_falls { sum_by D.faults doors.old ≤ sum_by D.faults doors.new }
+    ensures steps { OverUpdates source.now.view.now (λ us. steps.new ≤ steps.old + visits_of source.now.view.now.page_size (extents us) (length source.now.view.now.rows) ranges.now) }
+    ensures kept { CountsKept (map D.faults doors.old) (map D.faults doors.new) (sum_by D.faults doors.old) (sum_by D.faults doors.new) }
     ensures doors_stay { length doors.new ≡ length doors.old }
     ensures room_stays { length room.new ≡ length room.old }
     ensures truth_stays { All D.is_true doors.new }
@@ -214,9 +166,7 @@ fn fill_ranges<D: Door, L: Ledger>(
         let (offset, count) = *range;
         let end = filled + count as usize;
         let part = &mut out[filled..end];
-        match read_into(
-            snapshot, nodes, houses, doors, room, known, offset, part, steps,
-        ) {
+        match read_into(source, doors, room, known, offset, part, steps) {
             Ok(()) => filled = end,
             Err(fault) => return Err(fault),
         }
@@ -235,44 +185,33 @@ fn fill_ranges<D: Door, L: Ledger>(
 /// none. `room` is one for pages of the snapshot's size, and stays one.
 pub fn read_ranges<D: Door, L: Ledger>(
     alloc: Global,
-    snapshot: &View,
-    nodes: &NodeHouse,
-    houses: &Houses,
+    source: &ReadSource,
     doors: &mut Doors<D>,
     room: &mut ReadRoom,
     ranges: &[(u64, u64)],
     count: u64,
     steps: &mut Steps<L>,
 ) -> Result<Bytes, RangeFault>
-    requires here { IsVersionIn nodes.now houses.now snapshot.now }
-    requires doors { length doors.old ≡ length houses.now }
-    requires room { length room.old ≡ snapshot.now.page_size }
+    requires here { IsVersionIn source.now.nodes.now source.now.houses.now source.now.view.now }
+    requires doors { length doors.old ≡ length source.now.houses.now }
+    requires room { length room.old ≡ source.now.view.now.page_size }
     requires true_doors { All D.is_true doors.old }
     requires count { count ≡ bytes_in ranges.now }
 
-    // Where all is well.
-    ensures bytes { OverUpdates snapshot.now (λ us. IfOk result (λ bytes. bytes ≡ joined (content us (length snapshot.now.rows)) ranges.now)) }
-
-    // Why a fault is answered.
-    ensures refused { OverUpdates snapshot.now (λ us. (end : ℕ) → first_end_past (size_of us (length snapshot.now.rows)) ranges.now ≡ Some end
-        → result ≡ Err (RangeFault.RangePastSize end (size_of us (length snapshot.now.rows)))) }
-    ensures past { OverUpdates snapshot.now (λ us. IfErr result (λ fault. OnRangePast fault (first_end_past (size_of us (length snapshot.now.rows)) ranges.now ≢ None))) }
-    ensures page { IfErr result (λ fault. OnPageLost fault (IsMetByOne snapshot.now.page_size ranges.now)) }
-    ensures failed { IfErr result (λ fault. OnPageLost fault (PageFailedInOne snapshot.now ranges.now (map D.faults doors.old) (map D.faults doors.new))) }
-    ensures counted { IfErr result (λ fault. OnPageLost fault (λ _. HasRisen (sum_by D.faults doors.old) (sum_by D.faults doors.new))) }
-
-    // What it costs.
-    ensures steps { OverUpdates snapshot.now (λ us. steps.new ≤ steps.old + visits_of snapshot.now.page_size (extents us) (length snapshot.now.rows) ranges.now) }
-    ensures no_steps { OverUpdates snapshot.now (λ us. first_end_past (size_of us (length snapshot.now.rows)) ranges.now ≢ None → steps.new ≡ steps.old) }
-
-    // What becomes of the doors and the room.
-    ensures sum_never_falls { sum_by D.faults doors.old ≤ sum_by D.faults doors.new }
+    ensures bytes { OverUpdates source.now.view.now (λ us. IfOk result (λ bytes. bytes ≡ joined (content us (length source.now.view.now.rows)) ranges.now)) }
+    ensures refused { OverUpdates source.now.view.now (λ us. (end : ℕ) → first_end_past (size_of us (length source.now.view.now.rows)) ranges.now ≡ Some end
+        → result ≡ Err (RangeFault.RangePastSize end (size_of us (length source.now.view.now.rows)))) }
+    ensures answers { RangesAnswers source.now.view.now ranges.now (map D.faults doors.old) (map D.faults doors.new)
+        (sum_by D.faults doors.old) (sum_by D.faults doors.new) result }
+    ensures steps { OverUpdates source.now.view.now (λ us. steps.new ≤ steps.old + visits_of source.now.view.now.page_size (extents us) (length source.now.view.now.rows) ranges.now) }
+    ensures no_steps { OverUpdates source.now.view.now (λ us. first_end_past (size_of us (length source.now.view.now.rows)) ranges.now ≢ None → steps.new ≡ steps.old) }
+    ensures kept { CountsKept (map D.faults doors.old) (map D.faults doors.new) (sum_by D.faults doors.old) (sum_by D.faults doors.new) }
     ensures doors_stay { length doors.new ≡ length doors.old }
     ensures room_stays { length room.new ≡ length room.old }
     ensures truth_stays { All D.is_true doors.new }
 {
-    snapshot.stands();
-    let size = snapshot.size();
+    source.view.stands();
+    let size = source.view.size();
     if let Some(end) = first_past(size, ranges) {
         return Err(RangeFault::RangePastSize { end, size });
     }
@@ -283,9 +222,7 @@ pub fn read_ranges<D: Door, L: Ledger>(
         return Err(RangeFault::NoMemory);
     };
     let (buffer, known) = (out.as_mut_slice(), known.as_mut_slice());
-    match fill_ranges(
-        snapshot, nodes, houses, doors, room, known, ranges, buffer, steps,
-    ) {
+    match fill_ranges(source, doors, room, known, ranges, buffer, steps) {
         Ok(()) => Ok(Bytes::of(out)),
         Err(fault) => Err(fault),
     }

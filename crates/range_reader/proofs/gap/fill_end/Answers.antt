@@ -9,14 +9,14 @@ use Rattle.range_reader.proofs.gap.fill_end.Goals as goal
 pub returns-then-not-meets-clause-lacks : goal.returns-then-not-meets-clause-lacks
 returns-then-not-meets-clause-lacks g c = λ b from to has.
     let parts = c.requires.leaf in
-    let len = lens c.args.source.now.snapshot.now c.args.j c.args.page c.args.leaf parts in
+    let len = lens c.args.source.now.view.now c.args.leaf.version c.args.leaf.page c.args.leaf.parts parts in
     let met : c.meets.result ≡ true = c.meets.ensures.1 (omega (arith, from, has.1, parts.start, len), omega (arith, to, has.0, parts.start, c.requires.some)) in
     let no : c.meets.result ≡ false = c.if-not-meets.true in
     cc
 
 pub returns-then-not-meets-clause-narrowed : goal.returns-then-not-meets-clause-narrowed
 returns-then-not-meets-clause-narrowed g c = λ all.
-    narrowed_none (page_in c.args.source.now.snapshot.now c.args.j c.args.page) c.args.begin c.args.gap.low c.args.gap.high c.args.out.now
+    narrowed_none (page_in c.args.source.now.view.now c.args.leaf.version c.args.leaf.page) c.args.begin c.args.gap.low c.args.gap.high c.args.out.now
 
 pub returns-then-not-meets-clause-kept : goal.returns-then-not-meets-clause-kept
 returns-then-not-meets-clause-kept g c = kept_yet _ _
@@ -34,13 +34,13 @@ take_leaf-requires-clause-high g c =
 pub returns-then-from-gap-clause-lacks : goal.returns-then-from-gap-clause-lacks
 returns-then-from-gap-clause-lacks g c = λ b from to has.
     let parts = c.requires.leaf in
-    let len = lens c.args.source.now.snapshot.now c.args.j c.args.page c.args.leaf parts in
+    let len = lens c.args.source.now.view.now c.args.leaf.version c.args.leaf.page c.args.leaf.parts parts in
     omega (arith, from, to, has.1, parts.start, len, c.min-to.ensures, c.end.ensures)
 
 pub returns-then-from-gap-clause-narrowed : goal.returns-then-from-gap-clause-narrowed
 returns-then-from-gap-clause-narrowed g c = λ all.
     let met = c.meets.ensures.0 c.if-not-meets.false in
-    narrowed_front (page_in c.args.source.now.snapshot.now c.args.j c.args.page) c.args.begin c.max-from.result c.min-to.result c.args.out.now c.take_leaf.new.out
+    narrowed_front (page_in c.args.source.now.view.now c.args.leaf.version c.args.leaf.page) c.args.begin c.max-from.result c.min-to.result c.args.out.now c.take_leaf.new.out
     (omega (arith, c.max-from.ensures, c.requires.low))
     (omega (arith, c.max-from.ensures, c.min-to.ensures, c.end.ensures, met.0, met.1, c.requires.some))
     (omega (arith, c.min-to.ensures, c.requires.high))
@@ -57,9 +57,9 @@ returns-clause-lacks g c = λ b from to has. omega (arith, to, has.0, c.requires
 pub returns-clause-narrowed : goal.returns-clause-narrowed
 returns-clause-narrowed g c = λ all.
     let met = c.meets.ensures.0 c.if-not-meets.false in
-    let later : c.args.gap.low < c.args.leaf.start = omega (arith, c.max-from.ensures, c.if-from-gap.false) in
-    let long = to_end c.args.gap.low c.args.gap.high c.args.leaf.start (c.args.leaf.start + (c.args.leaf.first.len + c.args.leaf.second.len)) (λ x y. c.requires.end (x, y)) later in
-    narrowed_end (page_in c.args.source.now.snapshot.now c.args.j c.args.page) c.args.begin c.max-from.result c.min-to.result c.args.out.now c.take_leaf.new.out
+    let later : c.args.gap.low < c.args.leaf.parts.start = omega (arith, c.max-from.ensures, c.if-from-gap.false) in
+    let long = to_end c.args.gap.low c.args.gap.high c.args.leaf.parts.start (c.args.leaf.parts.start + (c.args.leaf.parts.first.len + c.args.leaf.parts.second.len)) (λ x y. c.requires.end (x, y)) later in
+    narrowed_end (page_in c.args.source.now.view.now c.args.leaf.version c.args.leaf.page) c.args.begin c.max-from.result c.min-to.result c.args.out.now c.take_leaf.new.out
     (omega (arith, c.max-from.ensures, c.requires.low))
     (omega (arith, c.max-from.ensures, c.min-to.ensures, c.end.ensures, met.0, met.1, c.requires.some))
     (omega (arith, c.min-to.ensures, c.requires.high))

@@ -12,23 +12,23 @@ use Rattle.range_reader.proofs.page.fill_along.Given as goal
 abbrev pub invariant-loop-next : goal.invariant-loop-next
 invariant-loop-next g l =
     let faults = g.D.Door.faults in
-    let s = l.source.snapshot.now in
+    let s = l.source.view.now in
     let p = s.page_size in
-    let page = page_in s l.version l.page in
+    let page = page_in s l.fn.head.version l.fn.head.page in
     record {
       within : l.first < length l.out;
       wanted : get_or l.marks l.first false ≡ true;
       before : (x : ℕ) → x < l.first → get_or l.marks x false ≡ false;
-      has : HasNodeFor s l.at (page_range p l.page);
-      led : IsLedTo s l.page l.at;
-      leaf : IsLeafOf s l.at l.page l.parts;
-      ahead : l.steps + backs_of p (falls s) l.at l.page ≤ l.fn.steps + backs_of p (falls s) l.version l.page;
+      has : HasNodeFor s l.version (page_range p l.fn.head.page);
+      led : IsLedTo s l.fn.head.page l.version;
+      leaf : IsLeafOf s l.version l.fn.head.page l.parts;
+      ahead : l.steps + backs_of p (falls s) l.version l.fn.head.page ≤ l.fn.steps + backs_of p (falls s) l.fn.head.version l.fn.head.page;
       there : All g.D.Door.is_true l.fn.doors → AreThere page l.begin l.out l.marks;
-      from : AreIn page (page_in s l.at l.page) l.begin (length l.out) l.marks;
+      from : AreIn page (page_in s l.version l.fn.head.page) l.begin (length l.out) l.marks;
       kept : CountsKept (map faults l.fn.doors) (map faults l.doors) (sum_by faults l.fn.doors) (sum_by faults l.doors);
       count : length l.doors ≡ length l.fn.doors;
       truth : All g.D.Door.is_true l.fn.doors → All g.D.Door.is_true l.doors;
     }
 
 abbrev pub decreases-loop-next : goal.decreases-loop-next
-decreases-loop-next g l = l.at
+decreases-loop-next g l = l.version

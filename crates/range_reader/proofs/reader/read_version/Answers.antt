@@ -7,11 +7,11 @@ use Rattle.tree_geom.proofs.Spans.{page_pos}
 use Rattle.range_reader.proofs.Walking.{down, up}
 use Rattle.range_reader.proofs.Rooted.{not_zero, root_stands, root_newest, root_tree, walk_bound}
 use Rattle.range_reader.proofs.reader.read_version.Goals as goal
-use Rattle.range_reader.proofs.reader.read_version.Goals.{in-Ok-walk, in-Err-walk, in-Ok, in-Err}
+use Rattle.range_reader.proofs.reader.read_version.Goals.{in-Ok, in-Err}
 
 pub walk-requires-clause-newest : goal.walk-requires-clause-newest
 walk-requires-clause-newest g c =
-    let s = c.args.view.now in
+    let s = c.args.source.now.view.now in
     let is = c.version-version.ensures.stands in
     let key = ap (λ (k : NodeKey). k.range) c.in-Some.ensures.key in
     let some : 1 ≤ size_now s = not_zero (size_now s) (λ e. let w : true ≡ false = c.in-Some.ensures.none.1 e in cc) in
@@ -19,7 +19,7 @@ walk-requires-clause-newest g c =
 
 pub walk-requires-clause-has : goal.walk-requires-clause-has
 walk-requires-clause-has g c =
-    let s = c.args.view.now in
+    let s = c.args.source.now.view.now in
     let is = c.version-version.ensures.stands in
     let key = ap (λ (k : NodeKey). k.range) c.in-Some.ensures.key in
     let some : 1 ≤ size_now s = not_zero (size_now s) (λ e. let w : true ≡ false = c.in-Some.ensures.none.1 e in cc) in
@@ -33,7 +33,7 @@ walk-requires-clause-ends g c =
 
 pub walk_to_page-requires-clause-levels : goal.walk_to_page-requires-clause-levels
 walk_to_page-requires-clause-levels g c =
-    let s = c.args.view.now in
+    let s = c.args.source.now.view.now in
     c.height-levels.ensures.is ∙ ap (λ p. height_of p c.size-size.result) c.page_size-page_size.ensures ∙ ap (height_of s.page_size) c.size-size.ensures.size
 
 pub walk_to_page-requires-clause-one_page : goal.walk_to_page-requires-clause-one_page
@@ -43,7 +43,7 @@ walk_to_page-requires-clause-one_page g c =
 
 pub returns-clause-steps : goal.returns-clause-steps
 returns-clause-steps g c =
-    let s = c.args.view.now in
+    let s = c.args.source.now.view.now in
     let p = s.page_size in
     let n = length c.args.out.now in
     let o = c.args.offset in
@@ -58,12 +58,13 @@ returns-clause-steps g c =
     let fits : o + n ≤ size_now s = omega arith in
     omega (arith, f, walk_bound c.page_bytes_stay.ensures.extents s is c.visited_are_few.ensures.bounded o n one fits)
 
-pub returns-clause-some : goal.returns-clause-some
-returns-clause-some g c =
+pub returns-then-offset-bytes-clause-answers : goal.returns-then-offset-bytes-clause-answers
+returns-then-offset-bytes-clause-answers g c =
     let one : 1 ≤ length c.args.out.now = grind (arith, nat_tests) in
-    elim c.match-walk.branch [ in-Ok-walk w ↦ rw w.result-is tt | in-Err-walk w ↦ rw w.result-is one ]
-
-pub returns-then-offset-bytes-clause-some : goal.returns-then-offset-bytes-clause-some
-returns-then-offset-bytes-clause-some g c =
-    let one : 1 ≤ length c.args.out.now = grind (arith, nat_tests) in
-    elim c.match-walk_to_page.branch [ in-Ok w ↦ rw w.result-is tt | in-Err w ↦ rw w.result-is one ]
+    record {
+      refused = λ over. absurd (omega (arith, over));
+      past = elim c.match-walk_to_page.branch [ in-Ok w ↦ rw w.result-is tt | in-Err w ↦ rw w.result-is tt ];
+      some = elim c.match-walk_to_page.branch [ in-Ok w ↦ rw w.result-is tt | in-Err w ↦ rw w.result-is one ];
+      failed = elim c.match-walk_to_page.branch [ in-Ok w ↦ rw w.result-is tt | in-Err w ↦ rw w.result-is w.in-Err.ensures.failed ];
+      counted = elim c.match-walk_to_page.branch [ in-Ok w ↦ rw w.result-is tt | in-Err w ↦ rw w.result-is w.in-Err.ensures.counted ];
+    }

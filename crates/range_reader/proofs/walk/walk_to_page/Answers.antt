@@ -11,13 +11,13 @@ use Rattle.range_reader.proofs.walk.walk_to_page.Goals as goal
 
 pub fill_page-requires-clause-newest : goal.fill_page-requires-clause-newest
 fill_page-requires-clause-newest g c =
-    let s = c.args.source.now.snapshot.now in
+    let s = c.args.source.now.view.now in
     let size = c.bytes-size.ensures.is ∙ c.page_size.ensures in
     c.newest_knowing-newest.ensures.newest ∙ ap (λ n. newest_in s (page_range s.page_size (c.args.from / n))) (sym size)
 
 pub fill_page-requires-clause-has : goal.fill_page-requires-clause-has
 fill_page-requires-clause-has g c =
-    let s = c.args.source.now.snapshot.now in
+    let s = c.args.source.now.view.now in
     let size = c.bytes-size.ensures.is ∙ c.page_size.ensures in
     let H : ℕ → Type 0 = λ n. HasNodeFor s c.newest_knowing-newest.result (page_range s.page_size (c.args.from / n)) in
     subst H (sym size) c.newest_knowing-newest.ensures.has
@@ -29,13 +29,13 @@ fill_page-requires-clause-within g c =
 
 pub fill_page-requires-clause-valid : goal.fill_page-requires-clause-valid
 fill_page-requires-clause-valid g c =
-    let p = c.args.source.now.snapshot.now.page_size in
+    let p = c.args.source.now.view.now.page_size in
     let size = c.bytes-size.ensures.is ∙ c.page_size.ensures in
     omega (arith, div-add-mod' c.args.from p, ap (λ n. c.args.from / n * p) size, ap (λ n. c.args.from % n) size, c.requires.valid)
 
 pub returns-in-true-clause-bytes : goal.returns-in-true-clause-bytes
 returns-in-true-clause-bytes g c = λ all.
-    let s = c.args.source.now.snapshot.now in
+    let s = c.args.source.now.view.now in
     let p = s.page_size in
     let size = c.bytes-size.ensures.is ∙ c.page_size.ensures in
     let b = c.bytes-size.result in
@@ -46,7 +46,7 @@ returns-in-true-clause-bytes g c = λ all.
 
 pub returns-in-true-clause-steps : goal.returns-in-true-clause-steps
 returns-in-true-clause-steps g c =
-    let s = c.args.source.now.snapshot.now in
+    let s = c.args.source.now.view.now in
     let size = c.bytes-size.ensures.is ∙ c.page_size.ensures in
     let d = ap (λ n. backs_of s.page_size (falls s) (length s.rows) (c.args.from / n)) size in
     omega (
@@ -60,7 +60,7 @@ returns-in-true-clause-steps g c =
 
 pub returns-in-false-clause-steps : goal.returns-in-false-clause-steps
 returns-in-false-clause-steps g c =
-    let s = c.args.source.now.snapshot.now in
+    let s = c.args.source.now.view.now in
     let size = c.bytes-size.ensures.is ∙ c.page_size.ensures in
     let d = ap (λ n. backs_of s.page_size (falls s) (length s.rows) (c.args.from / n)) size in
     omega (
@@ -74,7 +74,7 @@ returns-in-false-clause-steps g c =
 
 pub returns-in-false-clause-failed : goal.returns-in-false-clause-failed
 returns-in-false-clause-failed g c =
-    let s = c.args.source.now.snapshot.now in
+    let s = c.args.source.now.view.now in
     let p = s.page_size in
     let pos = page_pos p c.stands.ensures.page_size in
     let size = c.bytes-size.ensures.is ∙ c.page_size.ensures in
