@@ -17,6 +17,7 @@ use crate::session::{MAX_READ, Session, kept_view, range_told, unread};
 use blob_model::Bytes;
 use page_store::Door;
 use ports::gate::Gate;
+use range_reader::ReadSource;
 use request_form::{Fault, RangeList};
 use session_parts::read_ranges;
 use std::sync::Wait;
@@ -105,11 +106,14 @@ impl<'a, D: Door, G: Gate> Session<'a, D, G> {
         let _few = self.opened.count();
         let shared = self.shared;
         let view = kept_view(&self.opened, blob, version);
+        let source = ReadSource {
+            view: &view,
+            nodes: shared.nodes(),
+            houses: shared.houses(),
+        };
         range_told(read_ranges(
             self.alloc,
-            &view,
-            shared.nodes(),
-            shared.houses(),
+            &source,
             &mut self.doors,
             &mut self.room,
             pairs,

@@ -28,7 +28,7 @@ use node_store::NodeHouse;
 use page_fan::Doors;
 use page_store::Door;
 use ports::gate::Gate;
-use range_reader::ReadRoom;
+use range_reader::{ReadRoom, ReadSource};
 use request_form::{Fault, NoMemory};
 use session_parts::{Opened, RangeFault, Tickets, UpdateLimit, first_past, read_range};
 use snapshot::{Snapshot, View};
@@ -494,11 +494,14 @@ impl<'a, D: Door, G: Gate> Session<'a, D, G> {
         let _few = self.opened.count();
         let shared = self.shared;
         let view = kept_view(&self.opened, blob, version);
+        let source = ReadSource {
+            view: &view,
+            nodes: shared.nodes(),
+            houses: shared.houses(),
+        };
         range_told(read_range(
             self.alloc,
-            &view,
-            shared.nodes(),
-            shared.houses(),
+            &source,
             &mut self.doors,
             &mut self.room,
             offset,
@@ -584,11 +587,14 @@ impl<'a, D: Door, G: Gate> Session<'a, D, G> {
             return Err(Fault::ReadTooLong { length: count });
         }
         let shared = self.shared;
+        let source = ReadSource {
+            view,
+            nodes: shared.nodes(),
+            houses: shared.houses(),
+        };
         range_told(read_range(
             self.alloc,
-            view,
-            shared.nodes(),
-            shared.houses(),
+            &source,
             &mut self.doors,
             &mut self.room,
             offset,

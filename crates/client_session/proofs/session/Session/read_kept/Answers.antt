@@ -13,13 +13,14 @@ returns-clause-by g c =
     let s : SessionState g.row.D.Denot = record { store = i.shared.now; caller = i.pass.caller; log = i.pass.seen; held = i.held; next = i.next; doors = i.doors; limit = longest i.limit; looks_first = i.looks_first; turns = i.pass.turns; opened = all_kept i.opened } in
     let v = c.kept_view-view.result in
     let x = c.read_range.ensures in
+    let a = x.answers in
     rw (c.range_told.ensures.is, ← c.self.view_is) (record {
       v = v;
       found = found_by_view c.rows_tell.ensures s i.opened c.args.blob c.args.version v c.self.invariant.kept c.kept_view-view.ensures;
       reads = λ us tells.
-          reads_range v.page_size (length v.rows) c.args.offset c.args.count us c.read_range.result c.requires.few (x.bytes us tells) (x.within us tells) (x.refused us tells) (x.past us tells) (x.lost_within us tells) x.page;
-      steps = x.steps;
-      no_step = x.no_steps;
-      failed = range_lost c.read_range.result _ x.failed;
-      memory = λ us tells. range_starved (size_of us (length v.rows)) (c.args.offset + c.args.count) c.read_range.result (x.refused us tells);
+          reads_range v.page_size (length v.rows) c.args.offset c.args.count us c.read_range.result c.requires.few (x.bytes us tells) (a.within us tells) (a.refused us tells) (a.past us tells) (a.lost_within us tells) a.page;
+      steps = x.steps.few;
+      no_step = x.steps.none_past;
+      failed = range_lost c.read_range.result _ a.failed;
+      memory = λ us tells. range_starved (size_of us (length v.rows)) (c.args.offset + c.args.count) c.read_range.result (a.refused us tells);
     })

@@ -17,9 +17,9 @@ returns-clause-by g c =
       v = v;
       found = found_by_view c.rows_tell.ensures s i.opened c.args.blob c.args.version v c.self.invariant.kept c.kept_view-view.ensures;
       reads = λ us tells.
-          reads_ranges v.page_size (length v.rows) us c.args.pairs.now c.read_ranges.result (x.bytes us tells) (x.refused us tells) (x.past us tells) x.page;
+          reads_ranges v.page_size (length v.rows) us c.args.pairs.now c.read_ranges.result (x.bytes us tells) (x.refused us tells) (x.answers.past us tells) x.answers.page;
       steps = x.steps;
       no_step = x.no_steps;
-      failed = range_lost c.read_ranges.result _ x.failed;
+      failed = range_lost c.read_ranges.result _ x.answers.failed;
       memory = λ us tells. ranges_starved (size_of us (length v.rows)) c.args.pairs.now c.read_ranges.result (x.refused us tells);
     })
