@@ -1,9 +1,8 @@
 -- The pages that a numbered update stores anew: where they lie, and their bytes.
-use Rattle.std.proofs.Common.{true, false, Bool}
-use Rattle.std.proofs.Common.{◌≡◌, ◌⊎◌, ℕ, zero, suc, ◌+◌, ◌-◌, ◌*◌, ◌/◌, ◌<◌, ◌≤◌, List, [], ◌∷◌, ◌++◌, length, take, drop, max, min, arith, inl, inr, refl, ap, sym, subst, ◌∙◌}
-use Rattle.std.specs.Prelude.{◌==◌, ◌&&◌, not, if◌then◌else◌}
+use Rattle.std.proofs.Common.{true, false, Bool, ◌≡◌, ◌⊎◌, ℕ, zero, suc, ◌+◌, ◌-◌, ◌*◌, ◌/◌, ◌<◌, ◌≤◌, List, [], ◌∷◌, ◌++◌, length, take, drop, max, min, arith, inl, inr, refl, ap, sym, subst, ◌∙◌}
+use Rattle.std.specs.Prelude.{◌==◌, if◌then◌else◌}
 use Rattle.std.specs.List.{Contains}
-use Rattle.std.proofs.lemmas.Bool.{cases_lt, eq-eqb}
+use Rattle.std.proofs.lemmas.Bool.{cases_lt, eq-eqb, false≢true}
 use Rattle.std.proofs.lemmas.List.{get_or_append_left, get_or-take, take-take, length-take-le}
 use Rattle.std.proofs.lemmas.List.Elements.{Contains-append_cases}
 use Rattle.blob_model.specs.Content.{Update, put, content, content_from, size_of}
@@ -26,10 +25,10 @@ use Rattle.range_reader.specs.Reading.{page_in}
 use Rattle.range_reader.proofs.Walking.{down, up}
 use Rattle.tree_weaver.specs.Planned.{own_depth, own_extent, own_folded, own_folds}
 use Rattle.tree_weaver.proofs.Plans.{folds_told}
+use Rattle.tree_weaver.proofs.Shapes.{uncovered}
 use Rattle.tree_weaver.specs.Anew.{IsStoredAnew, KnowsBefore, IsChanged, bytes_anew}
 use Rattle.tree_weaver.specs.Woven.{IsAmong}
 use Rattle.range_log.proofs.Folds.{single, filter_only}
-use Rattle.range_log.proofs.Nodes.{not_both}
 
 -- ---- lists
 pub none_in : (i : ℕ) → Contains [] i → ⊥
@@ -68,10 +67,6 @@ all_covered p at len size old i some le is past reach =
     let b : (min (at + len) ((i + 1) * p) == min size ((i + 1) * p)) ≡ true = eq-eqb (min (at + len) ((i + 1) * p)) (min size ((i + 1) * p)) (omega arith) in
     rw (a, b) refl
 
-uncovered : (whole rest : Bool) → (not whole && rest) ≡ true → whole ≡ false
-uncovered true rest e = sym e
-uncovered false rest e = refl
-
 pub changed : EachTouchIs → TouchesAre → SizesAre → ExtentsStand → (t : NumberedUpdate) (i : ℕ) → IsValidTicket t → IsStoredAnew t i → length t.snapshot.rows + 1 ≡ t.version → IsChanged t i
 changed each are sizes stand t i is anew before =
     let p : ℕ = t.snapshot.page_size in
@@ -91,8 +86,8 @@ changed each are sizes stand t i is anew before =
     record {
       older = elim (cases_lt (i * p) (size_now t.snapshot)) [
         | inl lt ↦ lt
-        | inr past ↦ absurd (not_both (covers p t.at t.len t.size i) (all_covered p t.at t.len t.size (size_now t.snapshot) i is.some at size past ends)
-            (uncovered (covers p t.at t.len t.size i) (own_depth t i == 0) both.1))
+        | inr past ↦ absurd (false≢true (sym (uncovered (covers p t.at t.len t.size i) (own_depth t i == 0) both.1)
+            ∙ all_covered p t.at t.len t.size (size_now t.snapshot) i is.some at size past ends))
       ];
       begins = begins;
       ends = ends;
@@ -145,7 +140,8 @@ pub update_among : (us : List Update) (v : ℕ) → 1 ≤ v → update_at (take 
 update_among us zero some = absurd (omega arith)
 update_among us (suc k) some = get_or-take (suc k) us k no_update (omega arith)
 
-module _ (fill : LeavesFill) (folds : FoldsAre) (grown : LogsAreGrown) (count : TouchesAre) (hits : NewestHits) (has : NewestHasNode) (are : ExtentsAre) (each : EachExtentIs) (grow : ContentsGrow) where
+module _ (fill : LeavesFill) (folds : FoldsAre) (grown : LogsAreGrown) (count : TouchesAre) (hits : NewestHits) (has : NewestHasNode)
+    (are : ExtentsAre) (each : EachExtentIs) (grow : ContentsGrow) where
   -- among whichever updates the ticket's is one, they are the page's bytes at its version
   pub bytes_told : (t : NumberedUpdate) (p : ℕ) (us : List Update) (i : ℕ) → IsValidTicket t → IsAmong p us t → length t.snapshot.rows + 1 ≡ t.version
       → Contains (folds_of t.snapshot.page_size (extents (take t.version us)) t.version) i

@@ -10,7 +10,6 @@ use Rattle.page_store.specs.Stored.{bytes_of_pages}
 use Rattle.range_log.specs.Rows.{leaf_from, leaf_len, leaf_start}
 use Rattle.border_hints.specs.Numbered.{NumberedUpdate}
 use Rattle.range_reader.specs.Reading.{bytes_at, page_in}
-use Rattle.range_reader.proofs.LeafBytes.{length-page}
 use Rattle.range_reader.proofs.Parts.{length_part}
 use Rattle.tree_weaver.specs.Planned.{own_extent}
 use Rattle.tree_weaver.specs.Anew.{own_part, bytes_anew}
@@ -27,11 +26,11 @@ take_min p l =
     ]
 
 -- the valid bytes of a page are read as those from its first byte on
-pub page_read : (s : Version) (begin older page : ℕ) → begin ≡ page * s.page_size → older ≡ min s.page_size (size_now s - begin) → bytes_at s begin older ≡ page_in s (length s.rows) page
+pub page_read : (s : Version) (begin older page : ℕ) → begin ≡ page * s.page_size → older ≡ min s.page_size (size_now s - page * s.page_size) → bytes_at s begin older ≡ page_in s (length s.rows) page
 page_read s begin older page at is =
     let c : List ℕ = content (updates_of s) (length s.rows) in
     let left : length (drop begin c) ≡ size_now s - begin = length-drop begin c in
-    let n : begin + older - begin ≡ min s.page_size (length (drop begin c)) = omega (arith, is, left) in
+    let n : begin + older - begin ≡ min s.page_size (length (drop begin c)) = omega (arith, at, is, left) in
     ap (λ x. take x (drop begin c)) n ∙ take_min s.page_size (drop begin c) ∙ ap (λ x. take s.page_size (drop x c)) at
 
 -- own bytes over older ones that begin the buffer
@@ -48,21 +47,17 @@ put_filled r z o start begins whole =
     ∙ sym (append_assoc (take start r) o (drop n r))
 
 -- so the buffer of a page has its bytes after the update
-pub page_filled : (t : NumberedUpdate) (page begin older start from len a b : ℕ) (r own out : List ℕ) → begin ≡ page * t.snapshot.page_size
-    → older ≡ min t.snapshot.page_size (size_now t.snapshot - begin)
+pub page_filled : (t : NumberedUpdate) (page older start from len b : ℕ) (r own out : List ℕ) → length r ≡ older
     → start ≡ leaf_start t.snapshot.page_size (own_extent t) page → from ≡ leaf_from t.snapshot.page_size (own_extent t) page → len ≡ leaf_len t.snapshot.page_size (own_extent t) page
     → start ≤ older → length out ≡ max older (start + len) → from + len ≤ length (bytes_of_pages t.pages.pages)
-    → a ≡ older → r ≡ bytes_at t.snapshot begin a → b ≡ len → own ≡ slice_range (bytes_of_pages t.pages.pages) from (from + b)
+    → r ≡ page_in t.snapshot (length t.snapshot.rows) page → b ≡ len → own ≡ slice_range (bytes_of_pages t.pages.pages) from (from + b)
     → take start (r ++ drop older out) ++ (own ++ post_of start (start + len - start) (r ++ drop older out)) ≡ bytes_anew t page
-page_filled t page begin older start from len a b r own out at is starts begins counts first whole within a_is r_is b_is own_is =
-    let s : Version = t.snapshot in
-    let p : ℕ = s.page_size in
+page_filled t page older start from len b r own out size starts begins counts first whole within old b_is own_is =
+    let p : ℕ = t.snapshot.page_size in
     let bytes : List ℕ = bytes_of_pages t.pages.pages in
-    let old : r ≡ page_in s (length s.rows) page = r_is ∙ ap (bytes_at s begin) a_is ∙ page_read s begin older page at is in
     let n : from + b - from ≡ len = omega (arith, b_is) in
     let mine : own ≡ take len (drop from bytes) = own_is ∙ ap (λ x. take x (drop from bytes)) n in
     let same : own ≡ own_part t page = mine ∙ ap (λ x. take x (drop from bytes)) counts ∙ ap (λ x. take (leaf_len p (own_extent t) page) (drop x bytes)) begins in
-    let size : length r ≡ older = ap length old ∙ length-page p (updates_of s) (length s.rows) page ∙ ap (λ x. min p (size_now s - x)) (sym at) ∙ sym is in
     let count : length own ≡ len = ap length mine ∙ length_part bytes from len within in
     let z : List ℕ = drop older out in
     let rest : length z ≡ length out - older = length-drop older out in
@@ -70,8 +65,8 @@ page_filled t page begin older start from len a b r own out at is starts begins 
     ap (λ l. take start (r ++ z) ++ (own ++ l)) (drop-drop (start + len - start) start (r ++ z) ∙ ap (λ x. drop x (r ++ z)) k)
     ∙ put_filled r z own start (omega (arith, first, size)) (omega (arith, size, rest, whole, count))
     ∙ ap (λ l. put l start own) old
-    ∙ ap (λ x. put (page_in s (length s.rows) page) x own) starts
-    ∙ ap (put (page_in s (length s.rows) page) (leaf_start p (own_extent t) page)) same
+    ∙ ap (λ x. put (page_in t.snapshot (length t.snapshot.rows) page) x own) starts
+    ∙ ap (put (page_in t.snapshot (length t.snapshot.rows) page) (leaf_start p (own_extent t) page)) same
 
 -- how many bytes the update's own part of the buffer has room for
 pub filled_room : (older start len : ℕ) (r out : List ℕ) → length out ≡ max older (start + len) → start ≤ older → length r ≡ older

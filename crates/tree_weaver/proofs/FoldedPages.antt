@@ -1,6 +1,6 @@
 -- Which pages an update stores anew, as the code tests it, and where they stand among its stored pages.
-use Rattle.std.proofs.Common.{◌≡◌, ◌≢◌, ℕ, ◌+◌, ◌-◌, ◌*◌, ◌<◌, ◌≤◌, List, [], ◌∷◌, length, arith, inl, inr, refl, ap, sym, subst, ◌∙◌, true, false, Bool}
-use Rattle.std.specs.Prelude.{◌==◌, ◌&&◌, not, cond, if◌then◌else◌}
+use Rattle.std.proofs.Common.{◌≡◌, ◌≢◌, ℕ, ◌+◌, ◌-◌, ◌*◌, ◌<◌, ◌≤◌, List, [], ◌∷◌, length, arith, inl, inr, ap, sym, subst, ◌∙◌, true, false, Bool}
+use Rattle.std.specs.Prelude.{◌==◌, not, cond, if◌then◌else◌}
 use Rattle.std.specs.List.{filter, position_or_len}
 use Rattle.std.proofs.lemmas.Bool.Decides.{nat_tests}
 use Rattle.tree_geom.specs.declared.touch.Touch.{Touch}
@@ -12,7 +12,7 @@ use Rattle.snapshot.proofs.Growing.{cut_count}
 use Rattle.border_hints.specs.Numbered.{NumberedUpdate, IsValidTicket, own_touch}
 use Rattle.tree_geom.proofs.Spans.{page_pos}
 use Rattle.tree_weaver.specs.Planned.{own_depth, own_folded, own_place}
-use Rattle.tree_weaver.proofs.Shapes.{page_low, page_high, uncovered_edge, not_not}
+use Rattle.tree_weaver.proofs.Shapes.{page_low, page_high, uncovered, uncovered_edge}
 
 -- a page that the update touches begins before the update ends, and ends after it begins
 pub page_touched : (t : NumberedUpdate) (page size : ℕ) → IsValidTicket t → size ≡ t.snapshot.page_size → (own_touch t).first ≤ page → page ≤ (own_touch t).last
@@ -23,12 +23,6 @@ page_touched t page size is same first last =
     let low : t.at < page * p + p = page_low t.at p page (page_pos p is.published.page_size) first in
     let high : page * p ≤ t.at + t.len - 1 = page_high (t.at + t.len - 1) p page last in
     (begins, omega (arith, begins, high, is.some), omega (arith, begins, low, same))
-
--- it stores a page anew where it leaves some of it open and its leaf lies 0 deep
-pub folded_is : (t : NumberedUpdate) (page : ℕ) (open' : Bool) (depth : ℕ) → covers t.snapshot.page_size t.at t.len t.size page ≡ not open' → depth ≡ own_depth t page
-    → (open' && depth == 0) ≡ own_folded t page
-folded_is t page open' depth part is =
-    ap (λ b. b && depth == 0) (sym (not_not open')) ∙ ap (λ b. not b && depth == 0) (sym part) ∙ ap (λ d. not (covers t.snapshot.page_size t.at t.len t.size page) && d == 0) is
 
 -- the update's own stored pages are as many as its bytes need
 pub pages_counted : (t : NumberedUpdate) (told : Cut) (count : ℕ) → IsValidTicket t → told ≡ t.pages → IsCut told.page_size told.pages → count ≡ length told.pages
@@ -82,17 +76,12 @@ place_last t page other is anew =
     let apart : (u.first == u.last) ≡ false = grind (arith, nat_tests, other, is) in
     sym (last_place f u.first u.last apart (ap f (sym is) ∙ anew)) ∙ ap (own_place t) (sym is)
 
--- a page that the update stores anew it doesn't cover
-uncovered : (whole : Bool) (d : ℕ) → (not whole && d == 0) ≡ true → whole ≡ false
-uncovered true d e = sym e
-uncovered false d e = refl
-
 -- and the place of another page than the first, as the code tests it
 pub place_other : TouchesTellCover → (t : NumberedUpdate) (page : ℕ) (b : Bool) → IsValidTicket t → (u : Touch) → u ≡ own_touch t → (own_touch t).first ≤ page → page ≤ (own_touch t).last
     → page ≢ u.first → own_folded t page ≡ true → b ≡ own_folded t u.first → (if b then 1 else 0) ≡ own_place t page
 place_other tells t page b is u same from to other anew first =
     let p : ℕ = t.snapshot.page_size in
-    let open' : covers p t.at t.len t.size page ≡ false = uncovered (covers p t.at t.len t.size page) (own_depth t page) anew in
+    let open' : covers p t.at t.len t.size page ≡ false = uncovered (covers p t.at t.len t.size page) (own_depth t page == 0) anew in
     let N : Touch → Type 0 = λ v. page ≢ v.first in
     let past : page ≢ (own_touch t).first = subst N same other in
     let last : page ≡ (own_touch t).last =

@@ -1,5 +1,5 @@
 -- The links of a node, by its height and number.
-use Rattle.std.proofs.Common.{◌≡◌, ℕ, suc, ◌+◌, ◌-◌, ◌*◌, ◌/◌, ◌%◌, ◌^◌, ◌<◌, ◌≤◌, List, arith, ap, sym, subst, ◌∙◌}
+use Rattle.std.proofs.Common.{◌≡◌, ℕ, suc, ◌+◌, ◌-◌, ◌*◌, ◌/◌, ◌^◌, ◌<◌, ◌≤◌, List, arith, ap, sym, subst, ◌∙◌}
 use Rattle.std.proofs.lemmas.Nat.{mul-le, pow_pos}
 use Rattle.std.proofs.Math.Nat.{div-mul-le_self, lt-div-mul-add}
 use Rattle.tree_geom.specs.declared.touch.Touch.{Touch}
@@ -11,7 +11,7 @@ use Rattle.range_log.specs.Laws.{NewestHits, NewestMisses}
 use Rattle.border_hints.specs.Numbered.{NumberedUpdate, own_touch, log_upto, IsValidTicket}
 use Rattle.border_hints.specs.Borders.{beside, BorderLinks, AreBorders}
 use Rattle.border_hints.proofs.Turning.{halved, beside_even, beside_odd}
-use Rattle.tree_weaver.specs.Planned.{own_link}
+use Rattle.tree_weaver.specs.Planned.{own_link, AreOwnBorders}
 use Rattle.tree_weaver.proofs.Shapes.{page_high, number_met, link_hit, link_miss}
 
 -- ---- the numbers of the ranges of a height
@@ -50,91 +50,76 @@ number_fits t h q is to =
     omega (arith, is.size, is.fits)
 
 -- ---- the halves of a range
--- a lower half before the first page's range of its height stands beside that
-odd_half : (n q : ℕ) → n / 2 ≤ q → 2 * q < n → beside n ≡ 2 * q
-odd_half n q le lt =
-    let odd : n % 2 ≡ 1 = omega arith in
-    let e : n - 1 ≡ 2 * q = omega arith in
-    beside_odd n odd ∙ e
-
--- and an upper half behind the last page's beside that one
-even_half : (n q : ℕ) → q ≤ n / 2 → n < 2 * q + 1 → beside n ≡ 2 * q + 1
-even_half n q le lt =
-    let even : n % 2 ≡ 0 = omega arith in
-    let e : n + 1 ≡ 2 * q + 1 = omega arith in
-    beside_even n even ∙ e
-
 -- a page's range one height up, by that of the height
-one_up : (page h level : ℕ) → suc h ≡ level → page / 2 ^ h / 2 ≡ page / 2 ^ level
-one_up page h level next =
-    let e : h + 1 ≡ level = omega arith in
-    halved page h ∙ ap (λ l. page / 2 ^ l) e
+one_up : (page h : ℕ) → page / 2 ^ h / 2 ≡ page / 2 ^ suc h
+one_up page h = let e : h + 1 ≡ suc h = omega arith in halved page h ∙ ap (λ l. page / 2 ^ l) e
+
+-- a half before the first page's range of its height stands beside that
+odd_half : (f n : ℕ) → f / 2 ≤ n / 2 → n < f → beside f ≡ n
+odd_half f n le lt =
+    let e : f - 1 ≡ n = omega arith in
+    beside_odd f (omega arith) ∙ e
+
+-- and one behind the last page's beside that one
+even_half : (l n : ℕ) → n / 2 ≤ l / 2 → l < n → beside l ≡ n
+even_half l n le lt =
+    let e : l + 1 ≡ n = omega arith in
+    beside_even l (omega arith) ∙ e
+
+-- the halves of a range, by the height below
+pub low_is : LowHalvesAlign → (p level q : ℕ) → 1 ≤ level → left_half (tree_range p level q) ≡ tree_range p (level - 1) (2 * q)
+low_is align p level q above = let next : level ≡ suc (level - 1) = omega arith in ap (λ l. left_half (tree_range p l q)) next ∙ align p (level - 1) q
+
+pub high_is : HighHalvesAlign → (p level q : ℕ) → 1 ≤ level → right_half (tree_range p level q) ≡ tree_range p (level - 1) (2 * q + 1)
+high_is align p level q above = let next : level ≡ suc (level - 1) = omega arith in ap (λ l. right_half (tree_range p l q)) next ∙ align p (level - 1) q
 
 -- a height below the root's, as the borders tell it
-pub height_asked : (b : BorderLinks) (t : NumberedUpdate) (h : ℕ) → b.page_size ≡ t.snapshot.page_size → b.touch ≡ own_touch t → h < height_of t.snapshot.page_size t.size → h < height_of b.page_size b.touch.size
-height_asked b t h size touch low =
+pub height_asked : (b : BorderLinks) (t : NumberedUpdate) (h : ℕ) → AreOwnBorders t b → h < height_of t.snapshot.page_size t.size → h < height_of b.page_size b.touch.size
+height_asked b t h own low =
     let P : ℕ → Type 0 = λ p. h < height_of p b.touch.size in
     let Q : Touch → Type 0 = λ u. h < height_of t.snapshot.page_size u.size in
-    subst P (sym size) (subst Q (sym touch) low)
+    subst P (sym own.page_size) (subst Q (sym own.touch) low)
 
-module _ (t : NumberedUpdate) (is : IsValidTicket t) (own : touch_at (log_upto t) t.version ≡ own_touch t) (h level q : ℕ) (next : suc h ≡ level)
-    (from : (own_touch t).first / 2 ^ level ≤ q) (to : q ≤ (own_touch t).last / 2 ^ level) where
-  low_is : LowHalvesAlign → left_half (tree_range t.snapshot.page_size level q) ≡ tree_range t.snapshot.page_size h (2 * q)
-  low_is align = ap (λ l. left_half (tree_range t.snapshot.page_size l q)) (sym next) ∙ align t.snapshot.page_size h q
+-- the link for range number n of height h: u is what the update touches
+module _ (t : NumberedUpdate) (is : IsValidTicket t) (own : touch_at (log_upto t) t.version ≡ own_touch t) (h n : ℕ) (u : Touch) (same : u ≡ own_touch t) where
+  -- the update touches it
+  pub link_own : NewestHits → u.first / 2 ^ h ≤ n → n ≤ u.last / 2 ^ h → t.version ≡ own_link t (tree_range t.snapshot.page_size h n)
+  link_own hits from to =
+      let P : Touch → Type 0 = λ v. (v.first / 2 ^ h ≤ n) × (n ≤ v.last / 2 ^ h) in
+      let within : P (own_touch t) = subst P same (from, to) in
+      link_hit hits t (tree_range t.snapshot.page_size h n) is own (number_met t.snapshot.page_size h n (own_touch t) (page_pos t.snapshot.page_size is.published.page_size) within.0 within.1)
 
-  high_is : HighHalvesAlign → right_half (tree_range t.snapshot.page_size level q) ≡ tree_range t.snapshot.page_size h (2 * q + 1)
-  high_is align = ap (λ l. right_half (tree_range t.snapshot.page_size l q)) (sym next) ∙ align t.snapshot.page_size h q
-
-  -- the lower half, where the touched pages begin in it or before
-  pub low_touched : NewestHits → LowHalvesAlign → (u : Touch) → u ≡ own_touch t → u.first / 2 ^ h ≤ 2 * q → t.version ≡ own_link t (left_half (tree_range t.snapshot.page_size level q))
-  low_touched hits align u same reached =
+  -- it stands beside the way down to an edge of what the update touches
+  link_beside : NewestMisses → (edge : Touch → ℕ) (b : BorderLinks) (answer : ℕ) → AreOwnBorders t b
+      → ((log : List Touch) (k : ℕ) → AreBorders log k b → answer ≡ newest_of b.page_size log k (tree_range b.page_size h (beside (edge b.touch / 2 ^ h))))
+      → beside (edge (own_touch t) / 2 ^ h) ≡ n → ¬ Meets t.snapshot.page_size (own_touch t) (tree_range t.snapshot.page_size h n) → answer ≡ own_link t (tree_range t.snapshot.page_size h n)
+  link_beside misses edge b answer borders told next apart =
       let p : ℕ = t.snapshot.page_size in
-      let P : Touch → Type 0 = λ v. v.first / 2 ^ h ≤ 2 * q in
-      let up : (own_touch t).last / 2 ^ h / 2 ≡ (own_touch t).last / 2 ^ level = one_up (own_touch t).last h level next in
-      let met = number_met p h (2 * q) (own_touch t) (page_pos p is.published.page_size) (subst P same reached) (omega arith) in
-      link_hit hits t (tree_range p h (2 * q)) is own met ∙ ap (own_link t) (sym (low_is align))
+      let newest : ℕ → ℕ → ℕ = λ q m. newest_of q (log_upto t) (t.version - 1) (tree_range q h m) in
+      told (log_upto t) (t.version - 1) borders.newest
+      ∙ ap (λ q. newest q (beside (edge b.touch / 2 ^ h))) borders.page_size
+      ∙ ap (λ v. newest p (beside (edge v / 2 ^ h))) borders.touch
+      ∙ ap (newest p) next
+      ∙ link_miss misses t (tree_range p h n) is own apart
 
-  -- and where they begin behind it
-  pub low_untouched : NewestMisses → LowHalvesAlign → (u : Touch) → u ≡ own_touch t → 2 * q < u.first / 2 ^ h
-      → (b : BorderLinks) (answer : ℕ) → b.page_size ≡ t.snapshot.page_size → b.touch ≡ own_touch t → AreBorders (log_upto t) (t.version - 1) b
+  -- it comes before all that the update touches
+  pub link_below : NewestMisses → (b : BorderLinks) (answer : ℕ) → AreOwnBorders t b
       → ((log : List Touch) (k : ℕ) → AreBorders log k b → answer ≡ newest_of b.page_size log k (tree_range b.page_size h (beside (b.touch.first / 2 ^ h))))
-      → answer ≡ own_link t (left_half (tree_range t.snapshot.page_size level q))
-  low_untouched misses align u same before b answer size touch are told =
-      let p : ℕ = t.snapshot.page_size in
-      let P : Touch → Type 0 = λ v. 2 * q < v.first / 2 ^ h in
-      let short : 2 * q < (own_touch t).first / 2 ^ h = subst P same before in
-      let up : (own_touch t).first / 2 ^ h / 2 ≡ (own_touch t).first / 2 ^ level = one_up (own_touch t).first h level next in
-      let N : ℕ → Touch → ℕ = λ n v. newest_of n (log_upto t) (t.version - 1) (tree_range n h (beside (v.first / 2 ^ h))) in
-      told (log_upto t) (t.version - 1) are
-      ∙ ap (λ n. N n b.touch) size
-      ∙ ap (N p) touch
-      ∙ ap (λ n. newest_of p (log_upto t) (t.version - 1) (tree_range p h n)) (odd_half ((own_touch t).first / 2 ^ h) q (omega arith) short)
-      ∙ link_miss misses t (tree_range p h (2 * q)) is own (number_before p h (2 * q) (own_touch t) short)
-      ∙ ap (own_link t) (sym (low_is align))
+      → (own_touch t).first / 2 ^ suc h ≤ n / 2 → n < u.first / 2 ^ h → answer ≡ own_link t (tree_range t.snapshot.page_size h n)
+  link_below misses b answer borders told from before =
+      let first : ℕ = (own_touch t).first in
+      let P : Touch → Type 0 = λ v. n < v.first / 2 ^ h in
+      let short : n < first / 2 ^ h = subst P same before in
+      let up = one_up first h in
+      link_beside misses (λ v. v.first) b answer borders told (odd_half (first / 2 ^ h) n (omega (arith, up)) short) (number_before t.snapshot.page_size h n (own_touch t) short)
 
-  -- the upper half, where the touched pages end in it or behind
-  pub high_touched : NewestHits → HighHalvesAlign → (u : Touch) → u ≡ own_touch t → 2 * q + 1 ≤ u.last / 2 ^ h → t.version ≡ own_link t (right_half (tree_range t.snapshot.page_size level q))
-  high_touched hits align u same reached =
-      let p : ℕ = t.snapshot.page_size in
-      let P : Touch → Type 0 = λ v. 2 * q + 1 ≤ v.last / 2 ^ h in
-      let up : (own_touch t).first / 2 ^ h / 2 ≡ (own_touch t).first / 2 ^ level = one_up (own_touch t).first h level next in
-      let met = number_met p h (2 * q + 1) (own_touch t) (page_pos p is.published.page_size) (omega arith) (subst P same reached) in
-      link_hit hits t (tree_range p h (2 * q + 1)) is own met ∙ ap (own_link t) (sym (high_is align))
-
-  -- and where they end before it
-  pub high_untouched : NewestMisses → HighHalvesAlign → (u : Touch) → u ≡ own_touch t → u.last / 2 ^ h < 2 * q + 1
-      → (b : BorderLinks) (answer : ℕ) → b.page_size ≡ t.snapshot.page_size → b.touch ≡ own_touch t → AreBorders (log_upto t) (t.version - 1) b
+  -- it comes behind all that
+  pub link_above : NewestMisses → (b : BorderLinks) (answer : ℕ) → AreOwnBorders t b
       → ((log : List Touch) (k : ℕ) → AreBorders log k b → answer ≡ newest_of b.page_size log k (tree_range b.page_size h (beside (b.touch.last / 2 ^ h))))
-      → answer ≡ own_link t (right_half (tree_range t.snapshot.page_size level q))
-  high_untouched misses align u same behind b answer size touch are told =
-      let p : ℕ = t.snapshot.page_size in
-      let P : Touch → Type 0 = λ v. v.last / 2 ^ h < 2 * q + 1 in
-      let past : (own_touch t).last / 2 ^ h < 2 * q + 1 = subst P same behind in
-      let up : (own_touch t).last / 2 ^ h / 2 ≡ (own_touch t).last / 2 ^ level = one_up (own_touch t).last h level next in
-      let N : ℕ → Touch → ℕ = λ n v. newest_of n (log_upto t) (t.version - 1) (tree_range n h (beside (v.last / 2 ^ h))) in
-      told (log_upto t) (t.version - 1) are
-      ∙ ap (λ n. N n b.touch) size
-      ∙ ap (N p) touch
-      ∙ ap (λ n. newest_of p (log_upto t) (t.version - 1) (tree_range p h n)) (even_half ((own_touch t).last / 2 ^ h) q (omega arith) past)
-      ∙ link_miss misses t (tree_range p h (2 * q + 1)) is own (number_behind p h (2 * q + 1) (own_touch t) past)
-      ∙ ap (own_link t) (sym (high_is align))
+      → n / 2 ≤ (own_touch t).last / 2 ^ suc h → u.last / 2 ^ h < n → answer ≡ own_link t (tree_range t.snapshot.page_size h n)
+  link_above misses b answer borders told to behind =
+      let last : ℕ = (own_touch t).last in
+      let P : Touch → Type 0 = λ v. v.last / 2 ^ h < n in
+      let past : last / 2 ^ h < n = subst P same behind in
+      let up = one_up last h in
+      link_beside misses (λ v. v.last) b answer borders told (even_half (last / 2 ^ h) n (omega (arith, up)) past) (number_behind t.snapshot.page_size h n (own_touch t) past)

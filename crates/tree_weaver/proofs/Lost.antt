@@ -1,16 +1,14 @@
 -- Why a page was not stored anew, over several calls of the doors.
-use Rattle.std.proofs.Common.{◌≡◌, ℕ, zero, suc, ◌-◌, List, [], ◌∷◌, ◌++◌, Option, Some, None, arith}
-use Rattle.std.specs.Prelude.{All, IfSome, IfNone}
-use Rattle.std.specs.List.{cons_option}
-use Rattle.std.proofs.lemmas.List.Elements.{All-append, All-weaker}
-use Rattle.page_store.specs.House.{House}
-use Rattle.page_store.specs.Page.{IsAmong}
-use Rattle.page_store.specs.Stored.{Stored, LieAmong}
+use Rattle.std.proofs.Common.{◌≡◌, ℕ, ◌-◌, List, length, map, sym, ◌∙◌}
+use Rattle.std.specs.Prelude.{All}
+use Rattle.std.proofs.lemmas.List.Elements.{All-weaker}
 use Rattle.page_fan.specs.Counts.{NoneFell, RoseAt}
 use Rattle.page_fan.specs.Lost.{NoneTook}
 use Rattle.border_hints.specs.Numbered.{NumberedUpdate}
 use Rattle.range_reader.proofs.Counting.{page_since, risen_since}
 use Rattle.tree_weaver.specs.Anew.{FoldFailed, Unread, Unfetched, Untaken, OnLostFold}
+use Rattle.tree_weaver.specs.Folding.{CanFold, IsLost, AreKept}
+use Rattle.tree_weaver.specs.declared.folding.Folding.{Folding}
 use Rattle.tree_weaver.specs.declared.folding.WeaveFault.{WeaveFault}
 use Rattle.tree_weaver.specs.declared.folding.WeaveFault.TheVariants as fault
 use Rattle.tree_weaver.proofs.StoredParts.{part_since}
@@ -30,32 +28,26 @@ fold_since t providers replicas before mid now i kept (Unread f) = Unread (page_
 fold_since t providers replicas before mid now i kept (Unfetched f) = Unfetched (part_since t before mid now _ _ kept f)
 fold_since t providers replicas before mid now i kept (Untaken f) = Untaken (took_since providers replicas before mid now kept f)
 
+-- so does one of a lost page
+pub lost_since : {D : Type 0} (faults : D → ℕ) (folding : Folding) (old mid new : List D) (i : ℕ) → AreKept faults old mid → IsLost faults folding mid new i → IsLost faults folding old new i
+lost_since faults folding old mid new i kept lost = record {
+  failed = fold_since folding.ticket.now _ _ (map faults old) (map faults mid) (map faults new) i kept.none_fell lost.failed;
+  counted = risen_since _ _ _ kept.total lost.counted;
+}
+
+-- doors that stay as many and true serve as before
+pub can_still : {D : Type 0} (is_true : D → Type 0) (folding : Folding) (old new : List D) → CanFold is_true folding old → length new ≡ length old → (All is_true old → All is_true new)
+    → CanFold is_true folding new
+can_still is_true folding old new can same stay = record {
+  before = can.before;
+  here = can.here;
+  pages = can.pages;
+  served = can.served ∙ sym same;
+  housed = same ∙ can.housed;
+  true_doors = stay can.true_doors;
+}
+
 -- what is said of a fault, where it is weaker
 pub lost_weaker : (f : WeaveFault) (P Q : ℕ → Type 0) → ((i : ℕ) → P i → Q i) → OnLostFold f P → OnLostFold f Q
 lost_weaker (fault.PageFault page) P Q all l = all page l
 lost_weaker fault.NoMemory P Q all l = tt
-
--- ---- pages, of which there may be none
-pub first_of : (P : ℕ → Type 0) (o : Option ℕ) (l : List ℕ) → All P (cons_option o l) → IfSome o P
-first_of P (Some x) l all = all 0 x (omega arith)
-first_of P None l all = tt
-
-pub rest_of : (P : ℕ → Type 0) (o : Option ℕ) (l : List ℕ) → All P (cons_option o l) → All P l
-rest_of P (Some x) l all = λ k d lt. all (suc k) d (omega arith)
-rest_of P None l all = all
-
-pub none_first : (R : Type 0) (o : Option ℕ) (l : List ℕ) → cons_option o l ≡ [] → IfNone o R → R
-none_first R (Some x) l e r = cc
-none_first R None l e r = r
-
-pub none_rest : (o : Option ℕ) (l : List ℕ) → cons_option o l ≡ [] → l ≡ []
-none_rest (Some x) l e = cc
-none_rest None l e = e
-
-only : {houses : List House} (page : Stored) → All (IsAmong houses) page.spots → LieAmong houses (page ∷ [])
-only page here zero d lt = here
-only page here (suc k) d lt = absurd (omega arith)
-
--- one page more lies in the houses
-pub one_more : (houses : List House) (pages : List Stored) (page : Stored) → LieAmong houses pages → All (IsAmong houses) page.spots → LieAmong houses (pages ++ page ∷ [])
-one_more houses pages page all here = All-append (λ (x : Stored). All (IsAmong houses) x.spots) pages (page ∷ []) all (only page here)

@@ -12,6 +12,7 @@ use Rattle.tree_geom.specs.declared.range.Range.{Range}
 use Rattle.tree_geom.specs.declared.touch.Touch.{Touch}
 use Rattle.tree_geom.specs.declared.node.Node.{Node}
 use Rattle.tree_geom.specs.declared.node.Node.TheVariants.{Inner}
+use Rattle.tree_geom.proofs.Spans.{page_pos}
 use Rattle.tree_geom.specs.Geometry.{tree_range, page_range, left_half, right_half, height_of, covers, touched_by}
 use Rattle.range_log.specs.Log.{newest_of, touch_at, size_at}
 use Rattle.range_log.specs.Extents.{Extent, no_extent, extent_at, size_after, touches}
@@ -166,7 +167,8 @@ own_levels t touch p height a b c =
 abbrev pub numbered_node : NumberedUpdate → ℕ → ℕ → Range × Node
 numbered_node t h q = (tree_range t.snapshot.page_size h q, own_node t (tree_range t.snapshot.page_size h q))
 
-pub level_numbers : (t : NumberedUpdate) (u : Touch) (h : ℕ) → own_nodes t (level_of t.snapshot.page_size u h) ≡ map (numbered_node t h) (range_with_len (u.first / 2 ^ h) (u.last / 2 ^ h + 1 - u.first / 2 ^ h))
+pub level_numbers : (t : NumberedUpdate) (u : Touch) (h : ℕ)
+    → own_nodes t (level_of t.snapshot.page_size u h) ≡ map (numbered_node t h) (range_with_len (u.first / 2 ^ h) (u.last / 2 ^ h + 1 - u.first / 2 ^ h))
 unfolding level_of
 level_numbers t u h = map-map (λ r. (r, own_node t r)) (λ q. tree_range t.snapshot.page_size h q) (range_with_len (u.first / 2 ^ h) (u.last / 2 ^ h + 1 - u.first / 2 ^ h))
 
@@ -190,6 +192,10 @@ quotients_rise a b w pos le =
       | inl lt ↦ absurd (let e : (b / w + 1) * w ≤ a / w * w = mul-le (b / w + 1) w (a / w) w (omega arith) (omega arith) in let high : b < b / w * w + w = lt-div-mul-add pos in omega arith)
       | inr done ↦ done
     ]
+
+-- the first page that the update touches comes at or before the last
+pub touch_ordered : (t : NumberedUpdate) → IsValidTicket t → (own_touch t).first ≤ (own_touch t).last
+touch_ordered t is = quotients_rise t.at (t.at + t.len - 1) t.snapshot.page_size (page_pos t.snapshot.page_size is.published.page_size) (omega (arith, is.some))
 
 pub levels_none : (p : ℕ) (u : Touch) → levels_of p u 0 ≡ []
 unfolding levels_of
@@ -233,23 +239,21 @@ level_begun f all a q e =
     sym (ap (λ n. all ++ map f (range_with_len a n)) z ∙ append-nil all)
 
 -- where a level's loop has ended, it has told of all numbers of the level
-pub level_ended : (t : NumberedUpdate) (v : Touch) (h q : ℕ) → IsValidTicket t → 1 ≤ t.snapshot.page_size → v ≡ own_touch t → v.last / 2 ^ h + 1 ≤ q
+pub level_ended : (t : NumberedUpdate) (v : Touch) (h q : ℕ) → IsValidTicket t → v ≡ own_touch t → v.last / 2 ^ h + 1 ≤ q
     → (v.first / 2 ^ h ≤ v.last / 2 ^ h + 1 → q ≤ v.last / 2 ^ h + 1)
     → q - (own_touch t).first / 2 ^ h ≡ (own_touch t).last / 2 ^ h + 1 - (own_touch t).first / 2 ^ h
-level_ended t v h q is pos e past before =
-    let p : ℕ = t.snapshot.page_size in
+level_ended t v h q is e past before =
     let u : Touch = own_touch t in
     let P : Touch → Type 0 = λ x. (x.last / 2 ^ h + 1 ≤ q) × (x.first / 2 ^ h ≤ x.last / 2 ^ h + 1 → q ≤ x.last / 2 ^ h + 1) in
     let ends : P u = subst P e (past, before) in
-    let ordered : u.first ≤ u.last = quotients_rise t.at (t.at + t.len - 1) p pos (omega (arith, is.some)) in
-    let rises : u.first / 2 ^ h ≤ u.last / 2 ^ h = quotients_rise u.first u.last (2 ^ h) (pow_pos h) ordered in
+    let rises : u.first / 2 ^ h ≤ u.last / 2 ^ h = quotients_rise u.first u.last (2 ^ h) (pow_pos h) (touch_ordered t is) in
     omega (arith, ends.0, ends.1 (omega arith))
 
-pub level_finished : (t : NumberedUpdate) (v : Touch) (h q : ℕ) (all now : List (Range × Node)) → IsValidTicket t → 1 ≤ t.snapshot.page_size → v ≡ own_touch t → v.last / 2 ^ h + 1 ≤ q
+pub level_finished : (t : NumberedUpdate) (v : Touch) (h q : ℕ) (all now : List (Range × Node)) → IsValidTicket t → v ≡ own_touch t → v.last / 2 ^ h + 1 ≤ q
     → (v.first / 2 ^ h ≤ v.last / 2 ^ h + 1 → q ≤ v.last / 2 ^ h + 1)
     → now ≡ all ++ map (numbered_node t h) (range_with_len ((own_touch t).first / 2 ^ h) (q - (own_touch t).first / 2 ^ h))
     → now ≡ all ++ own_nodes t (level_of t.snapshot.page_size (own_touch t) h)
-level_finished t v h q all now is pos e past before so_far =
+level_finished t v h q all now is e past before so_far =
     so_far
-    ∙ ap (λ n. all ++ map (numbered_node t h) (range_with_len ((own_touch t).first / 2 ^ h) n)) (level_ended t v h q is pos e past before)
+    ∙ ap (λ n. all ++ map (numbered_node t h) (range_with_len ((own_touch t).first / 2 ^ h) n)) (level_ended t v h q is e past before)
     ∙ ap (λ l. all ++ l) (sym (level_numbers t (own_touch t) h))

@@ -97,13 +97,13 @@ room_left f p u v first row h q same is from to enough =
     let room : row.room ≡ first.room = ap (λ (r : PlacedNodes). r.room) is in
     omega (arith, within.0, within.1)
 
-pub put_finished : (t : NumberedUpdate) (v : Touch) (h q : ℕ) (first row : PlacedNodes) → IsValidTicket t → 1 ≤ t.snapshot.page_size → v ≡ own_touch t → v.last / 2 ^ h + 1 ≤ q
+pub put_finished : (t : NumberedUpdate) (v : Touch) (h q : ℕ) (first row : PlacedNodes) → IsValidTicket t → v ≡ own_touch t → v.last / 2 ^ h + 1 ≤ q
     → (v.first / 2 ^ h ≤ v.last / 2 ^ h + 1 → q ≤ v.last / 2 ^ h + 1)
     → row ≡ added first (map (node_at t h) (range_with_len ((own_touch t).first / 2 ^ h) (q - (own_touch t).first / 2 ^ h)))
     → row ≡ added first (nodes_of (own_nodes t (level_of t.snapshot.page_size (own_touch t) h)))
-put_finished t v h q first row is pos e past before so_far =
+put_finished t v h q first row is e past before so_far =
     so_far
-    ∙ ap (added first) (ap (λ n. map (node_at t h) (range_with_len ((own_touch t).first / 2 ^ h) n)) (level_ended t v h q is pos e past before) ∙ sym (level_nodes t (own_touch t) h))
+    ∙ ap (added first) (ap (λ n. map (node_at t h) (range_with_len ((own_touch t).first / 2 ^ h) n)) (level_ended t v h q is e past before) ∙ sym (level_nodes t (own_touch t) h))
 
 -- ---- all levels
 count_nodes : (t : NumberedUpdate) (ranges : List Range) → length (nodes_of (own_nodes t ranges)) ≡ length ranges

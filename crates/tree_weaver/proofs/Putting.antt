@@ -1,7 +1,7 @@
 -- Where folded pages were put, over several calls of the doors.
-use Rattle.std.proofs.Common.{◌≡◌, ℕ, zero, suc, List, [], ◌∷◌, ◌++◌, map, arith, sym, subst}
+use Rattle.std.proofs.Common.{◌≡◌, ℕ, List, [], ◌∷◌, ◌++◌, map, sym, subst}
 use Rattle.std.specs.Prelude.{All}
-use Rattle.std.proofs.lemmas.List.Elements.{All-append, All-weaker}
+use Rattle.std.proofs.lemmas.List.Elements.{All-push, All-weaker}
 use Rattle.page_store.specs.Stored.{Stored}
 use Rattle.page_fan.specs.Counts.{NoneFell}
 use Rattle.page_fan.proofs.Rises.{none_fell_since}
@@ -15,10 +15,6 @@ module _ {D : Type 0} where
   put_next called faults providers replicas first old new pages all page is kept begun puts put =
       let P : Stored → Type 0 = WasPut called faults providers replicas first new in
       let A : List Stored → Type 0 = λ l. All P l in
-      subst A (sym is) (All-append P pages (page ∷ []) (All-weaker (WasPut called faults providers replicas first old) P
+      subst A (sym is) (All-push P pages page (All-weaker (WasPut called faults providers replicas first old) P
       (λ x w. record { before = w.before; after = w.after; until_then = w.until_then; put = w.put; since_then = none_fell_since _ _ _ w.since_then kept }) pages puts)
-      (only_one P page (record { before = put.before; after = put.after; until_then = none_fell_since _ _ _ begun put.until_then; put = put.put; since_then = put.since_then })))
-    where
-      only_one : (P : Stored → Type 0) (page : Stored) → P page → All P (page ∷ [])
-      only_one P page p zero d lt = p
-      only_one P page p (suc k) d lt = absurd (omega arith)
+      (record { before = put.before; after = put.after; until_then = none_fell_since _ _ _ begun put.until_then; put = put.put; since_then = put.since_then }))

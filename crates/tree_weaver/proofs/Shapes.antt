@@ -1,6 +1,6 @@
 -- The ranges of a row's nodes, and the parts of its leaves.
 use Rattle.std.proofs.Common.{◌≡◌, ◌⊎◌, ℕ, zero, suc, ◌+◌, ◌-◌, ◌*◌, ◌/◌, ◌^◌, ◌<◌, ◌≤◌, List, length, arith, inl, inr, refl, ap, sym, subst, ◌∙◌, true, false, Bool}
-use Rattle.std.specs.Prelude.{◌==◌, not, if◌then◌else◌}
+use Rattle.std.specs.Prelude.{◌==◌, ◌&&◌, not, if◌then◌else◌}
 use Rattle.std.proofs.lemmas.Bool.{cases_order, false≢true}
 use Rattle.std.proofs.lemmas.Bool.Decides.{nat_tests}
 use Rattle.std.proofs.lemmas.Nat.{mul-le, pow_pos}
@@ -16,7 +16,7 @@ use Rattle.range_log.specs.Laws.{NewestHits, NewestMisses}
 use Rattle.border_hints.specs.Numbered.{NumberedUpdate, own_touch, log_upto, IsValidTicket}
 use Rattle.border_hints.specs.Borders.{IsRowRange, BorderLinks, AreBorders}
 use Rattle.border_hints.proofs.Depths.{depth_whole}
-use Rattle.tree_weaver.specs.Planned.{own_link, own_back, own_depth, own_leaf, own_inner, own_node}
+use Rattle.tree_weaver.specs.Planned.{own_link, own_back, own_depth, own_leaf, own_inner, own_node, AreOwnBorders}
 use Rattle.tree_geom.proofs.Spans.{page_pos, size_pos}
 use Rattle.border_hints.proofs.Published.{double}
 
@@ -32,6 +32,11 @@ page_high n p i le =
     let a : n / p * p ≤ n = div-mul-le_self n p in
     let b : i * p ≤ n / p * p = mul-le i p (n / p) p le (omega arith) in
     omega arith
+
+-- a page that the update stores anew it doesn't cover
+pub uncovered : (whole rest : Bool) → (not whole && rest) ≡ true → whole ≡ false
+uncovered true rest e = sym e
+uncovered false rest e = refl
 
 -- a page that the update touches and doesn't cover is its first or its last
 pub uncovered_edge : TouchesTellCover → (at len p size i : ℕ) → 1 ≤ p → 1 ≤ len → at + len ≤ size → at / p ≤ i → i ≤ (at + len - 1) / p → covers p at len size i ≡ false
@@ -55,7 +60,8 @@ uncovered_edge tells at len p size i pos some fits low high un =
 link_cases : (t : NumberedUpdate) → IsValidTicket t → t.version ≡ suc (t.version - 1)
 link_cases t is = omega (arith, is.version)
 
-pub link_hit : NewestHits → (t : NumberedUpdate) (range : Range) → IsValidTicket t → touch_at (log_upto t) t.version ≡ own_touch t → Meets t.snapshot.page_size (own_touch t) range → t.version ≡ own_link t range
+pub link_hit : NewestHits → (t : NumberedUpdate) (range : Range) → IsValidTicket t → touch_at (log_upto t) t.version ≡ own_touch t
+    → Meets t.snapshot.page_size (own_touch t) range → t.version ≡ own_link t range
 link_hit hits t range is own met =
     let p : ℕ = t.snapshot.page_size in
     let k : ℕ = t.version - 1 in
@@ -118,7 +124,8 @@ node_leaf t h q pos e =
     let number : q * (p * 2 ^ h) / p ≡ q = ap (λ n. q * n / p) size ∙ mul-div_cancel q pos in
     ap (own_leaf t) (sym number) ∙ sym (ap (λ b. if b then own_leaf t (q * (p * 2 ^ h) / p) else own_inner t (tree_range p h q)) test)
 
-pub node_inner : (t : NumberedUpdate) (h q : ℕ) → t.snapshot.page_size < t.snapshot.page_size * 2 ^ h → own_inner t (tree_range t.snapshot.page_size h q) ≡ own_node t (tree_range t.snapshot.page_size h q)
+pub node_inner : (t : NumberedUpdate) (h q : ℕ) → t.snapshot.page_size < t.snapshot.page_size * 2 ^ h
+    → own_inner t (tree_range t.snapshot.page_size h q) ≡ own_node t (tree_range t.snapshot.page_size h q)
 node_inner t h q wide =
     let p : ℕ = t.snapshot.page_size in
     let test : (p * 2 ^ h == p) ≡ false = grind (arith, nat_tests) in
@@ -133,7 +140,7 @@ inner_wide p (suc h) pos some =
     omega arith
 
 -- ---- what the code tests and asks
-pub not_not : (b : Bool) → not (not b) ≡ b
+not_not : (b : Bool) → not (not b) ≡ b
 not_not true = refl
 not_not false = refl
 
@@ -152,15 +159,16 @@ pub covered_back : (t : NumberedUpdate) (page : ℕ) → covers t.snapshot.page_
 covered_back t page whole =
     sym (ap (λ b. if b then 0 else newest_of t.snapshot.page_size (log_upto t) (t.version - 1) (page_range t.snapshot.page_size page)) whole)
 
-pub answered_back : (b : BorderLinks) (t : NumberedUpdate) (page answer : ℕ) → b.page_size ≡ t.snapshot.page_size → AreBorders (log_upto t) (t.version - 1) b
+pub answered_back : (b : BorderLinks) (t : NumberedUpdate) (page answer : ℕ) → AreOwnBorders t b
     → ((log : List Touch) (k : ℕ) → AreBorders log k b → answer ≡ newest_of b.page_size log k (page_range b.page_size page))
     → covers t.snapshot.page_size t.at t.len t.size page ≡ false → answer ≡ own_back t page
-answered_back b t page answer size are told part =
+answered_back b t page answer own told part =
     let newest : ℕ → ℕ = λ p. newest_of p (log_upto t) (t.version - 1) (page_range p page) in
-    told (log_upto t) (t.version - 1) are ∙ ap newest size ∙ sym (ap (λ b. if b then 0 else newest t.snapshot.page_size) part)
+    told (log_upto t) (t.version - 1) own.newest ∙ ap newest own.page_size ∙ sym (ap (λ b. if b then 0 else newest t.snapshot.page_size) part)
 
 -- how deep a leaf lies that covers its page
-pub covered_depth : MeetsIsTrue → TouchesTellCover → (t : NumberedUpdate) (page : ℕ) → IsValidTicket t → touch_at (log_upto t) t.version ≡ own_touch t → (own_touch t).first ≤ page → page ≤ (own_touch t).last
+pub covered_depth : MeetsIsTrue → TouchesTellCover → (t : NumberedUpdate) (page : ℕ) → IsValidTicket t → touch_at (log_upto t) t.version ≡ own_touch t
+    → (own_touch t).first ≤ page → page ≤ (own_touch t).last
     → covers t.snapshot.page_size t.at t.len t.size page ≡ true → 0 ≡ own_depth t page
 covered_depth met tells t page is own from to whole =
     let p : ℕ = t.snapshot.page_size in
@@ -171,22 +179,23 @@ covered_depth met tells t page is own from to whole =
     depth_whole met p (log_upto t) (own_touch t) k page pos (ap (touch_at (log_upto t)) e ∙ own) from to shut ∙ ap (λ n. depth_of p (log_upto t) n page) e
 
 -- and another one, as the borders tell it
-pub answered_depth : (b : BorderLinks) (t : NumberedUpdate) (page answer : ℕ) → IsValidTicket t → b.page_size ≡ t.snapshot.page_size → b.touch ≡ own_touch t → AreBorders (log_upto t) (t.version - 1) b
-    → touch_at (log_upto t) t.version ≡ own_touch t
+pub answered_depth : (b : BorderLinks) (t : NumberedUpdate) (page answer : ℕ) → IsValidTicket t → AreOwnBorders t b → touch_at (log_upto t) t.version ≡ own_touch t
     → ((log : List Touch) (k : ℕ) → AreBorders log k b → touch_at log (k + 1) ≡ b.touch → answer ≡ depth_of b.page_size log (k + 1) page) → answer ≡ own_depth t page
-answered_depth b t page answer is size touch are own told =
+answered_depth b t page answer is borders own told =
     let k : ℕ = t.version - 1 in
     let e : k + 1 ≡ t.version = omega (arith, is.version) in
-    told (log_upto t) k are (ap (touch_at (log_upto t)) e ∙ own ∙ sym touch)
-    ∙ ap (λ p. depth_of p (log_upto t) (k + 1) page) size
+    told (log_upto t) k borders.newest (ap (touch_at (log_upto t)) e ∙ own ∙ sym borders.touch)
+    ∙ ap (λ p. depth_of p (log_upto t) (k + 1) page) borders.page_size
     ∙ ap (λ n. depth_of t.snapshot.page_size (log_upto t) n page) e
 
 -- ---- the code's ranges and pages
--- the page is an edge, as the borders tell it
-pub edge_page : (b : BorderLinks) (t : NumberedUpdate) (page : ℕ) → b.touch ≡ own_touch t → (page ≡ (own_touch t).first) ⊎ (page ≡ (own_touch t).last) → (page ≡ b.touch.first) ⊎ (page ≡ b.touch.last)
-edge_page b t page e is =
+-- a page that the update touches and doesn't cover is an edge, as the borders tell it
+pub own_edge : TouchesTellCover → (b : BorderLinks) (t : NumberedUpdate) (page : ℕ) → IsValidTicket t → b.touch ≡ own_touch t → (own_touch t).first ≤ page → page ≤ (own_touch t).last
+    → covers t.snapshot.page_size t.at t.len t.size page ≡ false → (page ≡ b.touch.first) ⊎ (page ≡ b.touch.last)
+own_edge tells b t page is same from to part =
     let P : Touch → Type 0 = λ u. (page ≡ u.first) ⊎ (page ≡ u.last) in
-    subst P (sym e) is
+    let p : ℕ = t.snapshot.page_size in
+    subst P (sym same) (uncovered_edge tells t.at t.len p t.size page (page_pos p is.published.page_size) is.some (omega (arith, is.size)) from to part)
 
 -- the range of a node of the row, as the code tells it
 pub own_range : HeightsHold → SpanOfSome → RangesNest → (t : NumberedUpdate) (h q : ℕ) → IsValidTicket t → h ≤ height_of t.snapshot.page_size t.size
@@ -205,8 +214,8 @@ own_fits span t h q z is root row size =
     let P : ℕ → Type 0 = λ n. q * n + n ≤ 2 ^ 40 in
     subst P (sym size) (omega arith)
 
-pub stored_fits : (n len count p b : ℕ) (pages told : Cut) → told ≡ pages → n ≤ len → len ≡ length (bytes_of_pages pages.pages) → pages.page_size ≡ p → length (bytes_of_pages told.pages) ≤ count * told.page_size
-    → count < 2 ^ 32 → b ≡ p → n ≤ 4294967295 * b
+pub stored_fits : (n len count p b : ℕ) (pages told : Cut) → told ≡ pages → n ≤ len → len ≡ length (bytes_of_pages pages.pages) → pages.page_size ≡ p
+    → length (bytes_of_pages told.pages) ≤ count * told.page_size → count < 2 ^ 32 → b ≡ p → n ≤ 4294967295 * b
 stored_fits n len count p b pages told e le is size enough few same =
     let P : Cut → Type 0 = λ c. length (bytes_of_pages c.pages) ≤ count * c.page_size in
     let all : length (bytes_of_pages pages.pages) ≤ count * pages.page_size = subst P e enough in

@@ -54,10 +54,10 @@ pub read_lost : (f : ReadFault) (past R : Type 0) (P Q : ℕ → Type 0) → OnP
 read_lost (read.RangePastSize end size) past R P Q is within p q all = absurd (within is)
 read_lost (read.PageFault page) past R P Q is within p q all = all page p q
 
--- where all bytes that were to be read lie in page i, that is it
-pub page_lost : (s : Version) (p begin page n : ℕ) (before now : List ℕ) (i : ℕ) → 1 ≤ p → p ≡ s.page_size → begin ≡ page * s.page_size → 1 ≤ n → n ≤ s.page_size
-    → PageFailedIn s begin n before now i → PageFailed s before now page
-page_lost s p begin page n before now i pos same at some few f =
+-- where all bytes that were to be read lie in one page, that is it
+pub page_lost : (s : Version) (begin page n : ℕ) (before now : List ℕ) (i : ℕ) → begin ≡ page * s.page_size → 1 ≤ n → n ≤ s.page_size → PageFailedIn s begin n before now i
+    → PageFailed s before now page
+page_lost s begin page n before now i at some few f =
     let q : ℕ = s.page_size in
     let low : begin / q ≡ page = div_is q page begin (omega arith) (omega arith) (omega arith) in
     let high : (begin + n - 1) / q ≡ page = div_is q page (begin + n - 1) (omega arith) (omega arith) (omega arith) in

@@ -1,5 +1,6 @@
 pub mod Planned
 pub mod Laws
 pub mod Anew
+pub mod Folding
 pub mod Woven
 pub mod Put

@@ -77,11 +77,19 @@ pub record RowPlan : Type 0 where
   pub nodes : List (Range × Node)
   pub folded : List ℕ
 
--- by these its nodes are told: the borders of its row, the height of its tree, and so few stored pages that two more have numbers
-pub record TellsNodes (t : NumberedUpdate) (borders : BorderLinks) (height : ℕ) : Type 0 where
+-- the borders are those of its row
+pub record AreOwnBorders (t : NumberedUpdate) (borders : BorderLinks) : Type 0 where
   pub page_size : borders.page_size ≡ t.snapshot.page_size
   pub touch : borders.touch ≡ own_touch t
   pub newest : AreBorders (log_upto t) (t.version - 1) borders
-  pub height_is : height ≡ height_of t.snapshot.page_size t.size
-  pub low : height ≤ 38
+
+-- by these its nodes are told: its borders, a tree of no more heights than there are, and so few stored pages that two more have numbers
+pub record TellsNodes (t : NumberedUpdate) (borders : BorderLinks) : Type 0 where
+  pub own : AreOwnBorders t borders
+  pub low : height_of t.snapshot.page_size t.size ≤ 38
   pub few : length t.pages.pages ≤ 4294967293
+
+-- and the height of its tree
+pub record TellsRow (t : NumberedUpdate) (borders : BorderLinks) (height : ℕ) : Type 0 where
+  pub nodes : TellsNodes t borders
+  pub height_is : height ≡ height_of t.snapshot.page_size t.size

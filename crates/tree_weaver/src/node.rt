@@ -1,70 +1,50 @@
 // The nodes of a numbered update.
 ghost use Rattle.std.specs.Prelude.{◌≡◌, ◌+◌, ◌-◌, ◌*◌, ◌/◌, ◌%◌, ◌^◌, ◌<◌, ◌≤◌, ◌↔◌, ◌==◌, length, min, true, IsTrue};
 ghost use Rattle.std.specs.List.{filter_map};
-ghost use Rattle.tree_geom.specs.Geometry.{tree_range, left_half, right_half, height_of};
+ghost use Rattle.tree_geom.specs.Geometry.{tree_range, height_of, covers};
 ghost use Rattle.range_log.specs.Rows.{first_piece, second_piece, piece_count, leaf_start, leaf_from, leaf_len, pages_in, valid_in, whole_leaf};
-ghost use Rattle.border_hints.specs.Numbered.{log_upto, own_touch};
-ghost use Rattle.border_hints.specs.Borders.{AreBorders};
-ghost use Rattle.tree_weaver.specs.Planned.{own_extent, own_link, own_back, own_depth, own_folded, own_folds, own_place, own_leaf, own_inner};
+ghost use Rattle.border_hints.specs.Numbered.{own_touch};
+ghost use Rattle.tree_weaver.specs.Planned.{own_extent, own_link, own_back, own_depth, own_folded, own_folds, own_place, own_leaf, own_inner, AreOwnBorders};
 
 use border_hints::{Borders, Ticket};
 use tree_geom::laws::touches_tell_cover;
 use tree_geom::{Node, PageSize, Piece};
 
-// The version that the node for range number `q` of a height links to for its lower half: the update's own, or else the newest lower
-// one. The half is range number `2 q` of the height below. An update that doesn't touch it begins behind it.
-fn low_link(ticket: &Ticket, borders: &Borders, level: u32, q: u64) -> u64
-    requires page_size { borders.now.page_size ≡ ticket.now.snapshot.page_size }
-    requires touch { borders.now.touch ≡ own_touch ticket.now }
-    requires borders { AreBorders (log_upto ticket.now) (ticket.now.version - 1) borders.now }
-    requires above { 1 ≤ level }
-    requires level { level ≤ height_of ticket.now.snapshot.page_size ticket.now.size }
-    requires low { height_of ticket.now.snapshot.page_size ticket.now.size ≤ 38 }
-    requires first { (own_touch ticket.now).first / 2 ^ level ≤ q }
-    requires last { q ≤ (own_touch ticket.now).last / 2 ^ level }
-    ensures { result ≡ own_link ticket.now (left_half (tree_range ticket.now.snapshot.page_size level q)) }
+/// The size of the pages of the ticket's blob.
+pub(crate) fn page_size(ticket: &Ticket) -> PageSize
+    ensures { result ≡ ticket.now.snapshot.page_size }
 {
-    range_log::laws::newest_is_greatest();
-    range_log::laws::logs_are_grown();
-    tree_geom::laws::ranges_align();
-    let version = ticket.version();
-    let under = level - 1;
-    if 2 * q < ticket.touch().first >> under {
-        borders.below(under)
-    } else {
-        version
-    }
+    ticket.hints().snapshot.page_size()
 }
 
-// The same for its upper half, which is range number `2 q + 1` of the height below. An update that doesn't touch it ends before it.
-fn high_link(ticket: &Ticket, borders: &Borders, level: u32, q: u64) -> u64
-    requires page_size { borders.now.page_size ≡ ticket.now.snapshot.page_size }
-    requires touch { borders.now.touch ≡ own_touch ticket.now }
-    requires borders { AreBorders (log_upto ticket.now) (ticket.now.version - 1) borders.now }
+// The version that a node of a height links to for range number `n` of the height below, one of its halves: the update's own where it
+// touches the half, or else the newest lower one. A half that it doesn't touch stands beside the first or the last range that it touches.
+fn link(ticket: &Ticket, borders: &Borders, level: u32, n: u64) -> u64
+    requires borders { AreOwnBorders ticket.now borders.now }
     requires above { 1 ≤ level }
     requires level { level ≤ height_of ticket.now.snapshot.page_size ticket.now.size }
     requires low { height_of ticket.now.snapshot.page_size ticket.now.size ≤ 38 }
-    requires first { (own_touch ticket.now).first / 2 ^ level ≤ q }
-    requires last { q ≤ (own_touch ticket.now).last / 2 ^ level }
-    ensures { result ≡ own_link ticket.now (right_half (tree_range ticket.now.snapshot.page_size level q)) }
+    requires first { (own_touch ticket.now).first / 2 ^ level ≤ n / 2 }
+    requires last { n / 2 ≤ (own_touch ticket.now).last / 2 ^ level }
+    ensures { result ≡ own_link ticket.now (tree_range ticket.now.snapshot.page_size (level - 1) n) }
 {
     range_log::laws::newest_is_greatest();
     range_log::laws::logs_are_grown();
-    tree_geom::laws::ranges_align();
-    let version = ticket.version();
+    ticket.stands();
+    let touch = ticket.touch();
     let under = level - 1;
-    if ticket.touch().last >> under < 2 * q + 1 {
-        borders.above(under)
-    } else {
-        version
+    if n < touch.first >> under {
+        return borders.below(under);
     }
+    if touch.last >> under < n {
+        return borders.above(under);
+    }
+    ticket.version()
 }
 
 /// The node of the update for range number `q` of a height above the pages', which is one of its row.
 pub(crate) fn inner(ticket: &Ticket, borders: &Borders, level: u32, q: u64) -> Node
-    requires page_size { borders.now.page_size ≡ ticket.now.snapshot.page_size }
-    requires touch { borders.now.touch ≡ own_touch ticket.now }
-    requires borders { AreBorders (log_upto ticket.now) (ticket.now.version - 1) borders.now }
+    requires borders { AreOwnBorders ticket.now borders.now }
     requires above { 1 ≤ level }
     requires level { level ≤ height_of ticket.now.snapshot.page_size ticket.now.size }
     requires low { height_of ticket.now.snapshot.page_size ticket.now.size ≤ 38 }
@@ -72,10 +52,24 @@ pub(crate) fn inner(ticket: &Ticket, borders: &Borders, level: u32, q: u64) -> N
     requires last { q ≤ (own_touch ticket.now).last / 2 ^ level }
     ensures { result ≡ own_inner ticket.now (tree_range ticket.now.snapshot.page_size level q) }
 {
+    tree_geom::laws::ranges_align();
+    ticket.stands();
     Node::Inner {
-        left: low_link(ticket, borders, level, q),
-        right: high_link(ticket, borders, level, q),
+        left: link(ticket, borders, level, 2 * q),
+        right: link(ticket, borders, level, 2 * q + 1),
     }
+}
+
+// The byte of the blob at which the page begins, which the update touches.
+fn page_begin(ticket: &Ticket, page: u64) -> u64
+    requires first { (own_touch ticket.now).first ≤ page }
+    requires last { page ≤ (own_touch ticket.now).last }
+    ensures is { result ≡ page * ticket.now.snapshot.page_size }
+    ensures before_end { result < ticket.now.at + ticket.now.len }
+    ensures ends_behind { ticket.now.at < result + ticket.now.snapshot.page_size }
+{
+    ticket.stands();
+    page * page_size(ticket).bytes()
 }
 
 /// The bytes of the update that lie in one page: at which byte of the page and of the update's buffer they begin, and how
@@ -88,7 +82,6 @@ struct OwnPart {
 }
 
 // The bytes of the update that lie in the page, which it touches.
-#[tactic(auto, using(crate::proofs::Shapes::page_low, crate::proofs::Shapes::page_high))]
 fn part(ticket: &Ticket, page: u64) -> OwnPart
     requires first { (own_touch ticket.now).first ≤ page }
     requires last { page ≤ (own_touch ticket.now).last }
@@ -100,9 +93,8 @@ fn part(ticket: &Ticket, page: u64) -> OwnPart
     ensures in_buffer { result.from + result.len ≤ ticket.now.len }
 {
     ticket.stands();
-    let size = ticket.hints().snapshot.page_size().bytes();
-    let begin = page * size;
-    let end = (ticket.at() + ticket.len()).min(begin + size);
+    let begin = page_begin(ticket, page);
+    let end = (ticket.at() + ticket.len()).min(begin + page_size(ticket).bytes());
     let first = ticket.at().max(begin);
     OwnPart {
         start: first - begin,
@@ -146,13 +138,21 @@ fn pieces(p: PageSize, from: u64, len: u64) -> (u32, Piece, Piece)
     }
 }
 
+// Whether the update covers the page, which it touches.
+fn covers_page(ticket: &Ticket, page: u64) -> bool
+    requires first { (own_touch ticket.now).first ≤ page }
+    requires last { page ≤ (own_touch ticket.now).last }
+    ensures { let t = ticket.now in result ≡ covers t.snapshot.page_size t.at t.len t.size page }
+{
+    touches_tell_cover();
+    ticket.stands();
+    !ticket.touch().leaves_open(page)
+}
+
 // The newest lower version with a leaf of the page, and how deep the update's own leaf of it lies: how many backs lead on
 // from that. Both are 0 where the update covers the page. The update touches the page.
-#[tactic(auto, using(crate::proofs::Shapes::page_low, crate::proofs::Shapes::page_high))]
 fn back(ticket: &Ticket, borders: &Borders, page: u64) -> (u64, u32)
-    requires page_size { borders.now.page_size ≡ ticket.now.snapshot.page_size }
-    requires touch { borders.now.touch ≡ own_touch ticket.now }
-    requires borders { AreBorders (log_upto ticket.now) (ticket.now.version - 1) borders.now }
+    requires borders { AreOwnBorders ticket.now borders.now }
     requires first { (own_touch ticket.now).first ≤ page }
     requires last { page ≤ (own_touch ticket.now).last }
     ensures back { result.0 ≡ own_back ticket.now page }
@@ -162,7 +162,7 @@ fn back(ticket: &Ticket, borders: &Borders, page: u64) -> (u64, u32)
     tree_geom::laws::meets_is_decided();
     touches_tell_cover();
     ticket.stands();
-    if !ticket.touch().leaves_open(page) {
+    if covers_page(ticket, page) {
         return (0, 0);
     }
     (borders.leaf(page), borders.depth(page))
@@ -170,25 +170,18 @@ fn back(ticket: &Ticket, borders: &Borders, page: u64) -> (u64, u32)
 
 // Whether the update stores the page anew, which it touches.
 fn folded(ticket: &Ticket, borders: &Borders, page: u64) -> bool
-    requires page_size { borders.now.page_size ≡ ticket.now.snapshot.page_size }
-    requires touch { borders.now.touch ≡ own_touch ticket.now }
-    requires borders { AreBorders (log_upto ticket.now) (ticket.now.version - 1) borders.now }
+    requires borders { AreOwnBorders ticket.now borders.now }
     requires first { (own_touch ticket.now).first ≤ page }
     requires last { page ≤ (own_touch ticket.now).last }
     ensures { result ≡ own_folded ticket.now page }
 {
-    touches_tell_cover();
-    ticket.stands();
-    let open = ticket.touch().leaves_open(page);
     let (_, depth) = back(ticket, borders, page);
-    open && depth == 0
+    !covers_page(ticket, page) && depth == 0
 }
 
 /// The pages of the blob that the update stores anew, in their order.
 pub(crate) fn folds(ticket: &Ticket, borders: &Borders) -> [Option<u64>; 2]
-    requires page_size { borders.now.page_size ≡ ticket.now.snapshot.page_size }
-    requires touch { borders.now.touch ≡ own_touch ticket.now }
-    requires borders { AreBorders (log_upto ticket.now) (ticket.now.version - 1) borders.now }
+    requires borders { AreOwnBorders ticket.now borders.now }
     ensures { filter_map (λ o. o) result ≡ own_folds ticket.now }
 {
     ticket.stands();
@@ -205,9 +198,7 @@ pub(crate) fn folds(ticket: &Ticket, borders: &Borders) -> [Option<u64>; 2]
 
 // The place of the page among those that the update stores anew, of which it is one.
 fn place(ticket: &Ticket, borders: &Borders, page: u64) -> u32
-    requires page_size { borders.now.page_size ≡ ticket.now.snapshot.page_size }
-    requires touch { borders.now.touch ≡ own_touch ticket.now }
-    requires borders { AreBorders (log_upto ticket.now) (ticket.now.version - 1) borders.now }
+    requires borders { AreOwnBorders ticket.now borders.now }
     requires first { (own_touch ticket.now).first ≤ page }
     requires last { page ≤ (own_touch ticket.now).last }
     requires anew { own_folded ticket.now page ≡ true }
@@ -225,7 +216,7 @@ fn place(ticket: &Ticket, borders: &Borders, page: u64) -> u32
 
 // The leaf of a page that the update stores anew, at that place among such pages: all valid bytes of the page, in the stored
 // page that comes after the update's own at that place.
-#[tactic(auto, using(crate::proofs::Shapes::page_low, crate::proofs::Shapes::page_high, crate::proofs::FoldedPages::pages_counted))]
+#[tactic(auto, using(crate::proofs::FoldedPages::pages_counted))]
 fn whole(ticket: &Ticket, place: u32, page: u64) -> Node
     requires few { length ticket.now.pages.pages ≤ 4294967293 }
     requires place { place ≤ 1 }
@@ -234,9 +225,8 @@ fn whole(ticket: &Ticket, place: u32, page: u64) -> Node
     ensures { result ≡ whole_leaf (pages_in ticket.now.snapshot.page_size ticket.now.len + place) (valid_in ticket.now.snapshot.page_size ticket.now.size page) }
 {
     ticket.stands();
-    let size = ticket.hints().snapshot.page_size().bytes();
-    let begin = page * size;
-    let end = ticket.size().min(begin + size);
+    let begin = page_begin(ticket, page);
+    let end = ticket.size().min(begin + page_size(ticket).bytes());
     let first = Piece {
         page: ticket.pages().count() + place,
         from: 0,
@@ -259,9 +249,7 @@ fn whole(ticket: &Ticket, place: u32, page: u64) -> Node
 
 /// The leaf of the update for a page that it touches.
 pub(crate) fn leaf(ticket: &Ticket, borders: &Borders, page: u64) -> Node
-    requires page_size { borders.now.page_size ≡ ticket.now.snapshot.page_size }
-    requires touch { borders.now.touch ≡ own_touch ticket.now }
-    requires borders { AreBorders (log_upto ticket.now) (ticket.now.version - 1) borders.now }
+    requires borders { AreOwnBorders ticket.now borders.now }
     requires first { (own_touch ticket.now).first ≤ page }
     requires last { page ≤ (own_touch ticket.now).last }
     requires few { length ticket.now.pages.pages ≤ 4294967293 }
@@ -273,7 +261,7 @@ pub(crate) fn leaf(ticket: &Ticket, borders: &Borders, page: u64) -> Node
     ticket.stands();
     let _pages = ticket.pages().count();
     let part = part(ticket, page);
-    let (count, first, second) = pieces(ticket.hints().snapshot.page_size(), part.from, part.len);
+    let (count, first, second) = pieces(page_size(ticket), part.from, part.len);
     let (back, depth) = back(ticket, borders, page);
     Node::Leaf {
         start: part.start as u32,

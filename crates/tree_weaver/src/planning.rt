@@ -5,12 +5,11 @@ ghost use Rattle.tree_geom.specs.Geometry.{tree_range, height_of};
 ghost use Rattle.range_log.specs.Extents.{Extent};
 ghost use Rattle.range_log.specs.Rows.{folds_of, level_of, levels_of, row_of};
 ghost use Rattle.node_store.specs.House.{IsIn};
-ghost use Rattle.border_hints.specs.Numbered.{log_upto, own_touch, IsTicketAmong};
-ghost use Rattle.border_hints.specs.Borders.{AreBorders};
+ghost use Rattle.border_hints.specs.Numbered.{own_touch, IsTicketAmong};
 ghost use Rattle.snapshot.specs.Versions.{NodesLieIn};
-ghost use Rattle.tree_weaver.specs.Planned.{own_node, own_nodes, own_ranges, ranges_of, nodes_of, TellsNodes};
+ghost use Rattle.tree_weaver.specs.Planned.{own_node, own_nodes, own_ranges, ranges_of, nodes_of, TellsNodes, TellsRow};
 
-use crate::node::{folds, inner, leaf};
+use crate::node::{folds, inner, leaf, page_size};
 use border_hints::{Borders, Ticket, borders};
 use node_store::{NoMemory, NodeHouse, RowNodes};
 use std::alloc::Global;
@@ -34,13 +33,13 @@ pub struct PlannedRow<'a> {
 
 impl<'a> Model for PlannedRow<'a> {
     ghost use Rattle.std.specs.List.{filter_map};
-    ghost use Rattle.tree_weaver.specs.Planned.{RowPlan, TellsNodes, own_nodes, own_ranges};
+    ghost use Rattle.tree_weaver.specs.Planned.{RowPlan, TellsRow, own_nodes, own_ranges};
 
     ghost Value = { RowPlan };
 
     ghost view = { λ r. record { nodes = own_nodes r.ticket.now (own_ranges r.ticket.now); folded = filter_map (λ o. o) r.folded } };
 
-    ghost invariant = { λ r. TellsNodes r.ticket.now r.borders r.height };
+    ghost invariant = { λ r. TellsRow r.ticket.now r.borders r.height };
 }
 
 impl<'a> PlannedRow<'a> {
@@ -84,12 +83,8 @@ impl<'a> PlannedRow<'a> {
 
 // The update's node for range number `q` of a height. The update touches the range.
 fn node(ticket: &Ticket, borders: &Borders, level: u32, q: u64) -> Node
-    requires page_size { borders.now.page_size ≡ ticket.now.snapshot.page_size }
-    requires touch { borders.now.touch ≡ own_touch ticket.now }
-    requires borders { AreBorders (log_upto ticket.now) (ticket.now.version - 1) borders.now }
+    requires tells { TellsNodes ticket.now borders.now }
     requires level { level ≤ height_of ticket.now.snapshot.page_size ticket.now.size }
-    requires low { height_of ticket.now.snapshot.page_size ticket.now.size ≤ 38 }
-    requires few { length ticket.now.pages.pages ≤ 4294967293 }
     requires first { (own_touch ticket.now).first / 2 ^ level ≤ q }
     requires last { q ≤ (own_touch ticket.now).last / 2 ^ level }
     ensures { result ≡ own_node ticket.now (tree_range ticket.now.snapshot.page_size level q) }
@@ -104,13 +99,9 @@ fn node(ticket: &Ticket, borders: &Borders, level: u32, q: u64) -> Node
 
 // The same beside its range.
 fn pair(ticket: &Ticket, borders: &Borders, level: u32, q: u64) -> (Range, Node)
-    requires page_size { borders.now.page_size ≡ ticket.now.snapshot.page_size }
-    requires touch { borders.now.touch ≡ own_touch ticket.now }
-    requires borders { AreBorders (log_upto ticket.now) (ticket.now.version - 1) borders.now }
+    requires tells { TellsNodes ticket.now borders.now }
     requires level { level ≤ height_of ticket.now.snapshot.page_size ticket.now.size }
-    requires low { height_of ticket.now.snapshot.page_size ticket.now.size ≤ 38 }
     requires root { ticket.now.snapshot.page_size * 2 ^ height_of ticket.now.snapshot.page_size ticket.now.size ≤ 2 ^ 40 }
-    requires few { length ticket.now.pages.pages ≤ 4294967293 }
     requires first { (own_touch ticket.now).first / 2 ^ level ≤ q }
     requires last { q ≤ (own_touch ticket.now).last / 2 ^ level }
     ensures { let range = tree_range ticket.now.snapshot.page_size level q in
@@ -119,7 +110,7 @@ fn pair(ticket: &Ticket, borders: &Borders, level: u32, q: u64) -> (Range, Node)
     tree_geom::laws::spans_hold();
     tree_geom::laws::ranges_align();
     ticket.stands();
-    let size = ticket.hints().snapshot.page_size().bytes() << level;
+    let size = page_size(ticket).bytes() << level;
     let range = Range {
         offset: q * size,
         size,
@@ -134,13 +125,9 @@ fn list_level(
     level: u32,
     row: &mut Vec<(Range, Node)>,
 ) -> Result<(), NoMemory>
-    requires page_size { borders.now.page_size ≡ ticket.now.snapshot.page_size }
-    requires touch { borders.now.touch ≡ own_touch ticket.now }
-    requires borders { AreBorders (log_upto ticket.now) (ticket.now.version - 1) borders.now }
+    requires tells { TellsNodes ticket.now borders.now }
     requires level { level ≤ height_of ticket.now.snapshot.page_size ticket.now.size }
-    requires low { height_of ticket.now.snapshot.page_size ticket.now.size ≤ 38 }
     requires root { ticket.now.snapshot.page_size * 2 ^ height_of ticket.now.snapshot.page_size ticket.now.size ≤ 2 ^ 40 }
-    requires few { length ticket.now.pages.pages ≤ 4294967293 }
     ensures { IfOk result (λ _. row.new.items ≡ row.old.items ++ own_nodes ticket.now (level_of ticket.now.snapshot.page_size (own_touch ticket.now) level)) }
 {
     ticket.stands();
@@ -158,12 +145,12 @@ fn listed(
     borders: &Borders,
     height: u32,
 ) -> Result<Vec<(Range, Node)>, NoMemory>
-    requires tells { TellsNodes ticket.now borders.now height }
+    requires tells { TellsRow ticket.now borders.now height }
     ensures { IfOk result (λ list. list.items ≡ own_nodes ticket.now (own_ranges ticket.now)) }
 {
     tree_geom::laws::spans_hold();
     ticket.stands();
-    span_stands(ticket.hints().snapshot.page_size(), ticket.size());
+    span_stands(page_size(ticket), ticket.size());
     let mut row = Vec::new(alloc);
     for level in (0..height + 1).rev() {
         list_level(ticket, borders, level, &mut row)?;
@@ -197,12 +184,8 @@ fn put_level(
     nodes: &NodeHouse,
     row: &mut RowNodes,
 ) -> Result<(), NoMemory>
-    requires page_size { borders.now.page_size ≡ ticket.now.snapshot.page_size }
-    requires touch { borders.now.touch ≡ own_touch ticket.now }
-    requires borders { AreBorders (log_upto ticket.now) (ticket.now.version - 1) borders.now }
+    requires tells { TellsNodes ticket.now borders.now }
     requires level { level ≤ height_of ticket.now.snapshot.page_size ticket.now.size }
-    requires low { height_of ticket.now.snapshot.page_size ticket.now.size ≤ 38 }
-    requires few { length ticket.now.pages.pages ≤ 4294967293 }
     requires here { IsIn nodes.now row.old.spot }
     requires room { length row.old.nodes + length (level_of ticket.now.snapshot.page_size (own_touch ticket.now) level) ≤ row.old.room }
     ensures { IfOk result (λ _. row.new ≡ record row.old {
@@ -227,7 +210,7 @@ fn put_nodes<R: Wait>(
     height: u32,
     nodes: &NodeHouse,
 ) -> Result<RowNodes, NoMemory>
-    requires tells { TellsNodes ticket.now borders.now height }
+    requires tells { TellsRow ticket.now borders.now height }
     ensures here { IfOk result (λ row. IsIn nodes.now row.spot) }
     ensures version { IfOk result (λ row. row.version ≡ version) }
     ensures nodes { IfOk result (λ row. row.nodes ≡ nodes_of (own_nodes ticket.now (own_ranges ticket.now))) }
@@ -268,7 +251,7 @@ pub fn plan<'a, L: Ledger>(
     let borders = borders(ticket, nodes, steps);
     let folded = folds(ticket, &borders);
     ticket.stands();
-    let height = height(ticket.hints().snapshot.page_size(), ticket.size());
+    let height = height(page_size(ticket), ticket.size());
     Ok(PlannedRow {
         ticket,
         borders,

@@ -5,6 +5,7 @@ ghost use Rattle.node_store.specs.House.{IsIn};
 ghost use Rattle.border_hints.specs.Numbered.{own_touch};
 ghost use Rattle.tree_weaver.specs.Planned.{own_ranges, ranges_of};
 
+use crate::node::page_size;
 use crate::planning::PlannedRow;
 use border_hints::Ticket;
 use node_store::{Folds, NoMemory, NodeHouse, Row};
@@ -36,7 +37,7 @@ pub fn put_row<R: Wait>(
     ensures folds { IfOk result (λ row. (arc_value row).folds ≡ folds) }
 {
     ticket.stands();
-    let p = ticket.hints().snapshot.page_size();
+    let p = page_size(ticket);
     span_stands(p, ticket.size());
     let height = height(p, ticket.size());
     ticket.hints().waiting.stands();

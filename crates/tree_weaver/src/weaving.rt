@@ -14,7 +14,7 @@ ghost use Rattle.tree_weaver.specs.Anew.{StoresNoneAnew, StoresSomeAnew, IsStore
 ghost use Rattle.tree_weaver.specs.Woven.{IsWoven, BytesAnewStand};
 ghost use Rattle.tree_weaver.specs.Put.{WasPut};
 
-use crate::folding::{WeaveFault, fold_pages};
+use crate::folding::{Folding, WeaveFault};
 use crate::planning::{PlannedRow, plan};
 use crate::put::put_row;
 use border_hints::Ticket;
@@ -112,10 +112,13 @@ pub fn weave_anew<D: BesideDoor, R: Threads + Wait + Sync>(
     bytes_anew_stand();
     ticket.stands();
     let planned = planned::<Brand>(ticket, nodes, Blank::new(1))?;
-    let [first, last] = planned.folded();
-    match fold_pages(
-        rt, alloc, ticket, nodes, loads, doors, houses, room, first, last,
-    ) {
+    let folding = Folding {
+        ticket,
+        nodes,
+        houses,
+        loads,
+    };
+    match folding.fold_pages(rt, alloc, doors, room, planned.folded()) {
         Ok(folds) => Ok(put_row(rt, alloc, ticket, &planned, folds, nodes)?),
         Err(fault) => Err(fault),
     }

@@ -1,5 +1,4 @@
-use Rattle.std.proofs.Common.{◌+◌, ◌<◌, ◌^◌, arith, ap, ◌∙◌}
-use Rattle.snapshot.specs.Versions.{Version}
+use Rattle.std.proofs.Common.{◌+◌, ◌<◌, ◌^◌, arith, ◌∙◌}
 use Rattle.tree_weaver.proofs.Shapes.{stored_fits}
 use Rattle.tree_weaver.proofs.node.leaf.Goals as goal
 
@@ -9,5 +8,4 @@ pieces-count-requires-clause-stored c =
     let is = c.stands.ensures in
     let few : c.count-pages.result < 2 ^ 32 = omega (arith, c.count-pages.type_inv) in
     stored_fits (c.part-part.result.from + c.part-part.result.len) t.len c.count-pages.result t.snapshot.page_size c.page_size.result t.pages c.deref.result.now
-    (c.deref.ensures ∙ c.pages.ensures) c.part-part.ensures.in_buffer is.len is.page_size c.count-pages.ensures.enough few
-    (c.page_size.ensures ∙ ap (λ (s : Version). s.page_size) c.hints.ensures.snapshot)
+    (c.deref.ensures ∙ c.pages.ensures) c.part-part.ensures.in_buffer is.len is.page_size c.count-pages.ensures.enough few c.page_size.ensures

@@ -1,7 +1,6 @@
 use Rattle.std.proofs.Common.{◌/◌, ◌^◌, ◌≤◌, ap, subst}
 use Rattle.tree_geom.specs.declared.touch.Touch.{Touch}
 use Rattle.border_hints.specs.Numbered.{own_touch}
-use Rattle.tree_geom.proofs.Spans.{page_pos}
 use Rattle.tree_weaver.proofs.Plans.{numbered_node, level_begun, level_more, level_finished}
 use Rattle.tree_weaver.proofs.planning.list_level.Goals as goal
 
@@ -19,7 +18,5 @@ loop-q-preserved c =
 
 pub returns : goal.returns
 returns c =
-    let t = c.args.ticket.now in
-    let is = c.stands.ensures in
-    level_finished t c.touch-touch.result c.args.level c.loop-q.q c.args.row.now.items c.loop-q.row.items is (page_pos t.snapshot.page_size is.published.page_size)
+    level_finished c.args.ticket.now c.touch-touch.result c.args.level c.loop-q.q c.args.row.now.items c.loop-q.row.items c.stands.ensures
     c.touch-touch.ensures c.loop-q-test.false c.loop-q.auto.q-end c.loop-q.invariant

@@ -13,3 +13,9 @@ returns-else-level-eq0 c =
     let t = c.args.ticket.now in
     let p = t.snapshot.page_size in
     c.inner.ensures ∙ node_inner t c.args.level c.args.q (inner_wide p c.args.level (page_pos p c.stands.ensures.published.page_size) (omega (arith, c.if-level-eq0.false)))
+
+pub leaf-requires-clause-borders : goal.leaf-requires-clause-borders
+leaf-requires-clause-borders c = c.requires.tells.own
+
+pub inner-requires-clause-borders : goal.inner-requires-clause-borders
+inner-requires-clause-borders c = c.requires.tells.own

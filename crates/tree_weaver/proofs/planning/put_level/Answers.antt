@@ -3,7 +3,6 @@ use Rattle.tree_geom.specs.declared.touch.Touch.{Touch}
 use Rattle.border_hints.specs.Numbered.{own_touch}
 use Rattle.node_store.specs.Placed.{PlacedNodes, Spot}
 use Rattle.node_store.specs.House.{IsIn}
-use Rattle.tree_geom.proofs.Spans.{page_pos}
 use Rattle.tree_weaver.proofs.PutRows.{node_at, put_begun, put_more, put_finished, room_left}
 use Rattle.tree_weaver.proofs.planning.put_level.Goals as goal
 
@@ -31,7 +30,5 @@ loop-q-preserved c =
 
 pub returns : goal.returns
 returns c =
-    let t = c.args.ticket.now in
-    let is = c.stands.ensures in
-    put_finished t c.touch-touch.result c.args.level c.loop-q.q c.args.row.now c.loop-q.row is (page_pos t.snapshot.page_size is.published.page_size)
+    put_finished c.args.ticket.now c.touch-touch.result c.args.level c.loop-q.q c.args.row.now c.loop-q.row c.stands.ensures
     c.touch-touch.ensures c.loop-q-test.false c.loop-q.auto.q-end c.loop-q.invariant

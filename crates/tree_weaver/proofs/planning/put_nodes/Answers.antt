@@ -1,28 +1,19 @@
-use Rattle.std.proofs.Common.{◌+◌, ◌-◌, ◌≤◌, ◌^◌, arith, ap, sym, subst, refl, ◌∙◌}
-use Rattle.tree_geom.specs.declared.touch.Touch.{Touch}
-use Rattle.tree_geom.proofs.Spans.{page_pos}
+use Rattle.std.proofs.Common.{arith, ap, sym, subst, refl, ◌∙◌}
 use Rattle.node_store.specs.Placed.{PlacedNodes, Spot}
 use Rattle.node_store.specs.House.{IsIn}
-use Rattle.border_hints.specs.Numbered.{own_touch}
-use Rattle.tree_weaver.proofs.Plans.{quotients_rise}
+use Rattle.tree_weaver.proofs.Plans.{touch_ordered}
 use Rattle.tree_weaver.proofs.Links.{number_fits}
 use Rattle.tree_weaver.proofs.PutRows.{rows_begun, rows_more, rows_done, room_told, room_enough}
 use Rattle.tree_weaver.proofs.planning.put_nodes.Goals as goal
 
 pub node_count-count-requires-clause-ordered : goal.node_count-count-requires-clause-ordered
-node_count-count-requires-clause-ordered g c =
-    let t = c.args.ticket.now in
-    let is = c.stands.ensures in
-    subst (λ (u : Touch). u.first ≤ u.last) (sym c.touch.ensures)
-    (quotients_rise t.at (t.at + t.len - 1) t.snapshot.page_size (page_pos t.snapshot.page_size is.published.page_size) (omega (arith, is.some)))
+node_count-count-requires-clause-ordered g c = rw c.touch.ensures (touch_ordered c.args.ticket.now c.stands.ensures)
 
 pub node_count-count-requires-clause-small : goal.node_count-count-requires-clause-small
-node_count-count-requires-clause-small g c =
-    let t = c.args.ticket.now in
-    subst (λ (u : Touch). u.last ≤ 2 ^ 40) (sym c.touch.ensures) (number_fits t 0 (own_touch t).last c.stands.ensures (omega arith))
+node_count-count-requires-clause-small g c = rw c.touch.ensures (number_fits c.args.ticket.now 0 _ c.stands.ensures (omega arith))
 
 pub node_count-count-requires-clause-low : goal.node_count-count-requires-clause-low
-node_count-count-requires-clause-low g c = c.requires.tells.low
+node_count-count-requires-clause-low g c = omega (arith, c.requires.tells.height_is, c.requires.tells.nodes.low)
 
 pub loop-level-init : goal.loop-level-init
 loop-level-init g c =
@@ -34,23 +25,11 @@ loop-level-init g c =
       nodes = rows_begun t c.in_ok-row.row.nodes _ c.args.height c.requires.tells.height_is refl c.in_ok-row.ensures.none;
     }
 
-pub put_level-requires-clause-page_size : goal.put_level-requires-clause-page_size
-put_level-requires-clause-page_size g c = c.requires.tells.page_size
-
-pub put_level-requires-clause-touch : goal.put_level-requires-clause-touch
-put_level-requires-clause-touch g c = c.requires.tells.touch
-
-pub put_level-requires-clause-borders : goal.put_level-requires-clause-borders
-put_level-requires-clause-borders g c = c.requires.tells.newest
+pub put_level-requires-clause-tells : goal.put_level-requires-clause-tells
+put_level-requires-clause-tells g c = c.requires.tells.nodes
 
 pub put_level-requires-clause-level : goal.put_level-requires-clause-level
 put_level-requires-clause-level g c = omega (arith, c.requires.tells.height_is, c.loop-level.auto, c.loop-level-test.true)
-
-pub put_level-requires-clause-low : goal.put_level-requires-clause-low
-put_level-requires-clause-low g c = omega (arith, c.requires.tells.height_is, c.requires.tells.low)
-
-pub put_level-requires-clause-few : goal.put_level-requires-clause-few
-put_level-requires-clause-few g c = c.requires.tells.few
 
 pub put_level-requires-clause-here : goal.put_level-requires-clause-here
 put_level-requires-clause-here g c = c.loop-level.invariant.here

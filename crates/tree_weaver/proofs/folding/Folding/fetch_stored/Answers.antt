@@ -7,49 +7,49 @@ use Rattle.page_store.specs.Stored.{Cut, Stored, LieAmong, bytes_of_pages}
 use Rattle.page_fan.proofs.Using.{true_at_all}
 use Rattle.range_reader.proofs.Counting.{served}
 use Rattle.range_reader.proofs.Parts.{length_part}
+use Rattle.tree_weaver.proofs.Lost.{can_still}
 use Rattle.tree_weaver.proofs.StoredParts.{stored_part}
-use Rattle.tree_weaver.proofs.folding.fetch_stored.Goals as goal
+use Rattle.tree_weaver.proofs.folding.Folding.fetch_stored.Goals as goal
 
 -- a page lies in the houses, where all do
 page_lies : (houses : List House) (pages told : Cut) (number : ℕ) (stored : Stored) → told ≡ pages → LieAmong houses pages.pages
     → slice_get told.pages number ≡ Some stored → All (IsAmong houses) stored.spots
 page_lies houses pages told number stored same here is =
-    let P : Cut → Type 0 = λ x. slice_get x.pages number ≡ Some stored in
-    let this : P pages = subst P same is in
+    let this = rw same at is in
     let Q : Stored → Type 0 = λ s. All (IsAmong houses) s.spots in
     subst Q (get_or_from_slice_get pages.pages number stored stored this) (here number stored (slice_get_within pages.pages number stored this))
 
 pub returns-clause-bytes : goal.returns-clause-bytes
-returns-clause-bytes g c = λ all ok.
-    let t = c.args.ticket.now in
-    let same : c.deref-3.result.now ≡ t.pages = c.deref-3.ensures ∙ c.pages-pages.ensures in
-    c.fetch.ensures.got ok (true_at_all g.D.Door.is_true c.args.doors.now c.page-stored.result.now.spots all)
-    ∙ stored_part t.pages c.deref-3.result.now t.snapshot.page_size c.args.number c.args.skip (length c.args.out.now) c.page-stored.result.now same c.stands.ensures.page_size
-    c.page-stored.ensures.bytes c.requires.fits (omega (arith, c.requires.within, c.stands.ensures.len))
+returns-clause-bytes g c = λ ok.
+    let t = c.args.self.now.ticket.now in
+    c.fetch.ensures.got ok (true_at_all g.D.Door.is_true c.args.doors.now c.page-stored.result.now.spots c.requires.can.true_doors)
+    ∙ stored_part t.pages c.deref-3.result.now t.snapshot.page_size c.args.number c.args.skip (length c.args.out.now) c.page-stored.result.now (c.deref-3.ensures ∙ c.pages-pages.ensures)
+    c.stands.ensures.page_size c.page-stored.ensures.bytes c.requires.fits (omega (arith, c.requires.within, c.stands.ensures.len))
 
 pub returns-clause-failed : goal.returns-clause-failed
 returns-clause-failed g c = λ no.
-    let same : c.deref-3.result.now ≡ c.args.ticket.now.pages = c.deref-3.ensures ∙ c.pages-pages.ensures in
-    let P : Cut → Type 0 = λ x. slice_get x.pages c.args.number ≡ Some c.page-stored.result.now in
-    record { stored = c.page-stored.result.now; is = subst P same c.page-stored.ensures.this; failed = c.fetch.ensures.failed no }
+    record { stored = c.page-stored.result.now; is = rw (c.deref-3.ensures ∙ c.pages-pages.ensures) at c.page-stored.ensures.this; failed = c.fetch.ensures.failed no }
 
 pub returns-clause-kept : goal.returns-clause-kept
 returns-clause-kept g c = record { none_fell = c.fetch.ensures.none_fell; total = c.fetch.ensures.sum_never_falls }
 
+pub returns-clause-can : goal.returns-clause-can
+returns-clause-can g c = can_still _ _ _ _ c.requires.can c.fetch.ensures.count c.fetch.ensures.truth_stays
+
 pub fetch-requires-clause-here : goal.fetch-requires-clause-here
 fetch-requires-clause-here g c =
-    let same = c.deref-3.ensures ∙ c.pages-pages.ensures in
-    page_lies c.args.houses.now c.args.ticket.now.pages c.deref-3.result.now c.args.number c.page-stored.result.now same c.requires.pages c.page-stored.ensures.this
+    page_lies c.args.self.now.houses.now _ _ c.args.number c.page-stored.result.now (c.deref-3.ensures ∙ c.pages-pages.ensures) c.requires.can.pages c.page-stored.ensures.this
 
 pub fetch-requires-clause-served : goal.fetch-requires-clause-served
 fetch-requires-clause-served g c =
-    let same = c.deref-3.ensures ∙ c.pages-pages.ensures in
-    served c.args.houses.now (length c.args.doors.now) c.page-stored.result.now.spots c.requires.doors
-    (page_lies c.args.houses.now c.args.ticket.now.pages c.deref-3.result.now c.args.number c.page-stored.result.now same c.requires.pages c.page-stored.ensures.this)
+    let houses = c.args.self.now.houses.now in
+    let stored = c.page-stored.result.now in
+    served houses (length c.args.doors.now) stored.spots c.requires.can.housed
+    (page_lies houses _ _ c.args.number stored (c.deref-3.ensures ∙ c.pages-pages.ensures) c.requires.can.pages c.page-stored.ensures.this)
 
 pub fetch-requires-clause-room : goal.fetch-requires-clause-room
 fetch-requires-clause-room g c =
-    let t = c.args.ticket.now in
+    let t = c.args.self.now.ticket.now in
     let told = c.deref-3.result.now in
     let bytes = bytes_of_pages told.pages in
     let number = c.args.number in

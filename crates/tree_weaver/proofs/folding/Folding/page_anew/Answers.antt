@@ -1,14 +1,10 @@
 use Rattle.std.proofs.Common.{◌≡◌, ℕ, List, ◌++◌, length, take, drop, arith, ap, ◌∙◌}
 use Rattle.std.proofs.lemmas.List.{take-append-le, take_all}
-use Rattle.tree_weaver.proofs.folding.page_anew.Goals as goal
+use Rattle.tree_weaver.proofs.folding.Folding.page_anew.Goals as goal
 
 -- a buffer that was filled whole
 filled : (n : ℕ) (out items : List ℕ) → length items ≡ n → length out ≡ length items → take n (out ++ drop (length out) items) ≡ out
 filled n out items all same = take-append-le n out (drop (length out) items) (omega arith) ∙ take_all n out (omega arith)
-
-pub returns-then-not-fill_anew-clause-failed : goal.returns-then-not-fill_anew-clause-failed
-returns-then-not-fill_anew-clause-failed g c = λ providers replicas.
-    c.fill_anew.ensures.failed c.if-not-fill_anew.true providers replicas
 
 pub returns-clause-bytes : goal.returns-clause-bytes
 returns-clause-bytes g c =

@@ -1,4 +1,4 @@
-use Rattle.tree_weaver.proofs.folding.fill_anew.Given as goal
+use Rattle.tree_weaver.proofs.folding.Folding.fill_anew.Given as goal
 
 abbrev pub ghosts-read_before : goal.ghosts-read_before
 ghosts-read_before g a = record { name = a.blank.name; parts = a.blank.parts }
