@@ -49,4 +49,4 @@ pub use session::Session;
 pub use session_parts::{Done, HangUp, Started, Updated};
 pub use shared::{Shared, SharedOut};
 pub use tree_geom::PageSize;
-pub use version_manager::{Owner, Pass};
+pub use version_manager::{Look, Owner, Pass};

@@ -20,6 +20,7 @@ ghost use Rattle.client_session.specs.Memory.{IfNoMemory, IsTakenNow};
 ghost use Rattle.client_session.specs.Results.{desk_fault, told_of, opened_of, unread_fault, range_of, create_reply, branch_reply, read_reply};
 ghost use Rattle.client_session.specs.Opening.{Opening, IsOfStore, ReadsRange};
 ghost use Rattle.client_session.specs.Kept.{all_kept, has_opened, IsViewAmong, KeptAfter, Coming, ReadByKept};
+ghost use Rattle.client_session.specs.Looks.{look_request};
 ghost use Rattle.client_session.specs.Sessions.{IsPassOf, session_of, pass_of, Continues, visits_seen, NoStepIfRefused, IsSettled, AnswersAsPublished};
 
 use crate::shared::Shared;
@@ -37,7 +38,7 @@ use std::marker::Model;
 use std::sync::Wait;
 use std::sync::ledger::Ledger;
 use tree_geom::Steps;
-use version_manager::{DeskFault, OpenFault, Pass};
+use version_manager::{DeskFault, Look, OpenFault, Pass};
 
 // The most bytes of a read.
 pub(crate) const MAX_READ: u64 = 16_777_216;
@@ -322,6 +323,19 @@ impl<'a, D: Door, G: Gate> Session<'a, D, G> {
         told(shared.desk().branch(rt, &mut self.pass, blob, version))
     }
 
+    /// What the store answers to that look at a blob. One turn. It takes no memory.
+    pub fn look<R: Wait>(&mut self, rt: &R, blob: u64, look: Look) -> Outcome
+        ensures answers { Answers AllOther (session_of self.old) (look_request look blob) (reply_of result) (session_of self.new) }
+        ensures faults { RoseBy (fault_count (reply_of result)) (sum_by D.faults self.old.doors) (sum_by D.faults self.new.doors) }
+        ensures goes_on { Continues self.old self.new }
+        ensures rest { self.new ≡ record self.old { log = self.new.log; turns = self.new.turns } }
+        ensures one_turn { self.new.turns ≡ self.old.turns + 1 }
+    {
+        version_manager::laws::gaps_are_of_others();
+        let shared = self.shared;
+        shared.desk().look(rt, &mut self.pass, blob, look)
+    }
+
     /// The greatest published version of a blob, and its size. One turn.
     pub fn recent<R: Wait>(&mut self, rt: &R, blob: u64) -> Outcome
         ensures answers { Answers AllOther (session_of self.old) (Requests.Recent blob) (reply_of result) (session_of self.new) }
@@ -330,9 +344,7 @@ impl<'a, D: Door, G: Gate> Session<'a, D, G> {
         ensures rest { self.new ≡ record self.old { log = self.new.log; turns = self.new.turns } }
         ensures one_turn { self.new.turns ≡ self.old.turns + 1 }
     {
-        version_manager::laws::gaps_are_of_others();
-        let shared = self.shared;
-        shared.desk().recent(rt, &mut self.pass, blob)
+        self.look(rt, blob, Look::Recent)
     }
 
     /// The size of a published version. One turn.
@@ -343,9 +355,7 @@ impl<'a, D: Door, G: Gate> Session<'a, D, G> {
         ensures rest { self.new ≡ record self.old { log = self.new.log; turns = self.new.turns } }
         ensures one_turn { self.new.turns ≡ self.old.turns + 1 }
     {
-        version_manager::laws::gaps_are_of_others();
-        let shared = self.shared;
-        shared.desk().size(rt, &mut self.pass, blob, version)
+        self.look(rt, blob, Look::Size { version })
     }
 
     /// Whether a numbered version is published: one look, in one turn.
@@ -356,9 +366,7 @@ impl<'a, D: Door, G: Gate> Session<'a, D, G> {
         ensures rest { self.new ≡ record self.old { log = self.new.log; turns = self.new.turns } }
         ensures one_turn { self.new.turns ≡ self.old.turns + 1 }
     {
-        version_manager::laws::gaps_are_of_others();
-        let shared = self.shared;
-        shared.desk().sync(rt, &mut self.pass, blob, version)
+        self.look(rt, blob, Look::Sync { version })
     }
 
     /// How far the updates of a blob are. One turn.
@@ -369,9 +377,7 @@ impl<'a, D: Door, G: Gate> Session<'a, D, G> {
         ensures rest { self.new ≡ record self.old { log = self.new.log; turns = self.new.turns } }
         ensures one_turn { self.new.turns ≡ self.old.turns + 1 }
     {
-        version_manager::laws::gaps_are_of_others();
-        let shared = self.shared;
-        shared.desk().status(rt, &mut self.pass, blob)
+        self.look(rt, blob, Look::Status)
     }
 
     /// Waits until a numbered version is published. It looks at once, and then after each finish of a session of this store,

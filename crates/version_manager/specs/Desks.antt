@@ -11,7 +11,6 @@ use Rattle.blob_model.specs.declared.call.Event.{Event}
 use Rattle.blob_model.specs.declared.call.Outcome.{Outcome}
 use Rattle.blob_model.specs.declared.call.Outcome.TheVariants as Outcomes
 use Rattle.blob_model.specs.declared.call.Refusal.{Refusal}
-use Rattle.blob_model.specs.declared.call.Refusal.TheVariants as Refusals
 use Rattle.range_log.specs.declared.open.OpenTouch.{OpenTouch}
 use Rattle.range_log.specs.Extents.{touches}
 use Rattle.range_log.specs.Updates.{update_at, extents}

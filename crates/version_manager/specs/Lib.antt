@@ -5,5 +5,6 @@ pub mod DeskInvariant
 pub mod Folds
 pub mod Laws
 pub mod Log
+pub mod Looks
 pub mod Origins
 pub mod Stays

@@ -6,6 +6,7 @@ ghost use Rattle.blob_model.specs.declared.call.Outcome.TheVariants as Outcomes;
 
 use crate::desk::Desk;
 use crate::fault::{DeskFault, OpenFault};
+use crate::look::Look;
 use blob_model::{Outcome, Place, Refusal};
 use border_hints::Ticket;
 use node_store::Row;
@@ -213,99 +214,26 @@ impl Act<Desk> for Foresee {
     ghost stays_ready = { λ _ _ _ _ h. h };
 }
 
-/// The greatest published version of a blob and its size.
-pub struct Recent {
+/// Looks at a blob.
+pub struct LookAt {
     pub blob: u64,
+    pub look: Look,
 }
 
-impl Act<Desk> for Recent {
-    ghost use Rattle.blob_model.specs.declared.call.Call.TheVariants as Calls;
+impl Act<Desk> for LookAt {
     ghost use Rattle.version_manager.specs.Log.{Looked};
+    ghost use Rattle.version_manager.specs.Looks.{look_call};
 
     type Answer = Outcome;
 
     ghost ready = { λ _ _ _. Unit {0} };
 
-    ghost gives = { λ a before f by said after. Looked f (Calls.Recent a.blob) before by said after };
+    ghost gives = { λ a before f by said after. Looked f (look_call a.look a.blob) before by said after };
 
     fn act(self, state: &mut Desk, _caller: u32) -> Outcome {
-        let Recent { blob } = self;
+        let LookAt { blob, look } = self;
         state.stands();
-        state.recent(blob)
-    }
-
-    ghost stays_ready = { λ _ _ _ _ _. tt };
-}
-
-/// The size of a published version.
-pub struct Size {
-    pub blob: u64,
-    pub version: u64,
-}
-
-impl Act<Desk> for Size {
-    ghost use Rattle.blob_model.specs.declared.call.Call.TheVariants as Calls;
-    ghost use Rattle.version_manager.specs.Log.{Looked};
-
-    type Answer = Outcome;
-
-    ghost ready = { λ _ _ _. Unit {0} };
-
-    ghost gives = { λ a before f by said after. Looked f (Calls.Size a.blob a.version) before by said after };
-
-    fn act(self, state: &mut Desk, _caller: u32) -> Outcome {
-        let Size { blob, version } = self;
-        state.stands();
-        state.size(blob, version)
-    }
-
-    ghost stays_ready = { λ _ _ _ _ _. tt };
-}
-
-/// Whether a numbered version is published.
-pub struct Sync {
-    pub blob: u64,
-    pub version: u64,
-}
-
-impl Act<Desk> for Sync {
-    ghost use Rattle.blob_model.specs.declared.call.Call.TheVariants as Calls;
-    ghost use Rattle.version_manager.specs.Log.{Looked};
-
-    type Answer = Outcome;
-
-    ghost ready = { λ _ _ _. Unit {0} };
-
-    ghost gives = { λ a before f by said after. Looked f (Calls.Sync a.blob a.version) before by said after };
-
-    fn act(self, state: &mut Desk, _caller: u32) -> Outcome {
-        let Sync { blob, version } = self;
-        state.stands();
-        state.sync(blob, version)
-    }
-
-    ghost stays_ready = { λ _ _ _ _ _. tt };
-}
-
-/// How far the updates of a blob are.
-pub struct Status {
-    pub blob: u64,
-}
-
-impl Act<Desk> for Status {
-    ghost use Rattle.blob_model.specs.declared.call.Call.TheVariants as Calls;
-    ghost use Rattle.version_manager.specs.Log.{Looked};
-
-    type Answer = Outcome;
-
-    ghost ready = { λ _ _ _. Unit {0} };
-
-    ghost gives = { λ a before f by said after. Looked f (Calls.Status a.blob) before by said after };
-
-    fn act(self, state: &mut Desk, _caller: u32) -> Outcome {
-        let Status { blob } = self;
-        state.stands();
-        state.status(blob)
+        state.look(blob, look)
     }
 
     ghost stays_ready = { λ _ _ _ _ _. tt };

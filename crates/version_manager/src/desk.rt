@@ -16,12 +16,14 @@ ghost use Rattle.version_manager.specs.Desks.{empty_desk, store_now, outcome_now
 ghost use Rattle.version_manager.specs.Desks.{is_finished_in, OnRefused, OnNoMemory, IsUnfinished, IsNumbering, IsTicketOf, IsRowFor, HasHints, HasHintsBelow};
 ghost use Rattle.version_manager.specs.Desks.{most_bytes, refusal_in, ticket_refusal, opens_below, unopened_size};
 ghost use Rattle.version_manager.specs.Folds.{IsInOrder, AreInOrder};
+ghost use Rattle.version_manager.specs.Looks.{look_call};
 ghost use Rattle.version_manager.specs.Origins.{LieUnderOrigins};
 
 use crate::blob::{branch_in, first_in, refusal_of_update, ticket_again, ticket_over};
 use crate::entry::{Change, Entry};
 use crate::fault::{DeskFault, OpenFault};
-use crate::looks::{no_ticket, recent_in, size_in, snapshot_in, status_in, sync_in};
+use crate::look::Look;
+use crate::looks::{look_in, no_ticket, snapshot_in};
 use crate::waiting::{WaitingList, WaitingUpdate};
 use blob_model::{Limits, Outcome, Place, Refusal};
 use border_hints::Ticket;
@@ -405,44 +407,42 @@ impl Desk {
         }
     }
 
+    /// What the store answers now to that look at the blob. It takes no memory.
+    pub fn look(&self, blob: u64, look: Look) -> Outcome
+        ensures { (caller : ℕ) → result ≡ outcome_now self.now caller (look_call look blob) }
+    {
+        match index_of(&self.windows, blob) {
+            Some(index) => look_in(&self.windows[index], look),
+            None => Outcome::Refused(Refusal::NoBlob { blob }),
+        }
+    }
+
     /// The greatest published version of the blob and its size.
     pub fn recent(&self, blob: u64) -> Outcome
         ensures { (caller : ℕ) → result ≡ outcome_now self.now caller (Calls.Recent blob) }
     {
-        match index_of(&self.windows, blob) {
-            Some(index) => recent_in(&self.windows[index]),
-            None => Outcome::Refused(Refusal::NoBlob { blob }),
-        }
+        self.look(blob, Look::Recent)
     }
 
     /// The size of a published version, in bytes.
     pub fn size(&self, blob: u64, version: u64) -> Outcome
         ensures { (caller : ℕ) → result ≡ outcome_now self.now caller (Calls.Size blob version) }
     {
-        match index_of(&self.windows, blob) {
-            Some(index) => size_in(&self.windows[index], version),
-            None => Outcome::Refused(Refusal::NoBlob { blob }),
-        }
+        self.look(blob, Look::Size { version })
     }
 
     /// Whether a numbered version is published. It takes one look.
     pub fn sync(&self, blob: u64, version: u64) -> Outcome
         ensures { (caller : ℕ) → result ≡ outcome_now self.now caller (Calls.Sync blob version) }
     {
-        match index_of(&self.windows, blob) {
-            Some(index) => sync_in(&self.windows[index], version),
-            None => Outcome::Refused(Refusal::NoBlob { blob }),
-        }
+        self.look(blob, Look::Sync { version })
     }
 
     /// How far the blob's updates are.
     pub fn status(&self, blob: u64) -> Outcome
         ensures { (caller : ℕ) → result ≡ outcome_now self.now caller (Calls.Status blob) }
     {
-        match index_of(&self.windows, blob) {
-            Some(index) => status_in(&self.windows[index]),
-            None => Outcome::Refused(Refusal::NoBlob { blob }),
-        }
+        self.look(blob, Look::Status)
     }
 }
 

@@ -1,17 +1,19 @@
 // Looks at one blob, over its window alone. What a clause says of a blob holds of each one that the window keeps.
-ghost use Rattle.std.specs.Prelude.{◌≡◌, ℕ, List, [], ◌∷◌, length, ◌<◌, ◌≤◌, IfOk, IfErr, IfNone};
+ghost use Rattle.std.specs.Prelude.{◌≡◌, ℕ, List, [], ◌∷◌, length, ◌<◌, ◌≤◌, Some, IfOk, IfErr, IfNone};
 ghost use Rattle.blob_model.specs.Content.{size_of};
 ghost use Rattle.blob_model.specs.Limits.{Bounds};
-ghost use Rattle.blob_model.specs.Store.{Store, Blob, assigned, published, held};
-ghost use Rattle.blob_model.specs.Answer.{first_refusal, unless_refused, not_published, not_numbered, already, pending};
+ghost use Rattle.blob_model.specs.Store.{Store, Blob, blob_at, held};
+ghost use Rattle.blob_model.specs.Answer.{answer, first_refusal, unless_refused, not_published, not_numbered, already, pending};
 ghost use Rattle.blob_model.specs.declared.call.Outcome.TheVariants as Outcomes;
 ghost use Rattle.publisher.specs.Windows.{published_of, version_of};
 ghost use Rattle.snapshot.specs.Laws.{TellUpdates};
 ghost use Rattle.snapshot.specs.Versions.{older_version, size_now};
 ghost use Rattle.version_manager.specs.Desks.{unopened_size};
 ghost use Rattle.version_manager.specs.DeskInvariant.{Keeps};
+ghost use Rattle.version_manager.specs.Looks.{look_call};
 
 use crate::fault::OpenFault;
+use crate::look::Look;
 use blob_model::{Outcome, Refusal};
 use publisher::{NoMemory, Window};
 use snapshot::Snapshot;
@@ -56,56 +58,50 @@ fn held_by(window: &Window) -> u64
     }
 }
 
-/// The greatest published version of the blob and its size.
-pub(crate) fn recent_in(window: &Window) -> Outcome
-    ensures { (limits : Bounds) (b : Blob) → Keeps limits window.now b → result ≡ Outcomes.Recent (published b) (size_of b.updates (published b)) }
-{
-    window.stands();
-    let snapshot = window.snapshot();
-    Outcome::Recent {
-        version: snapshot.version(),
-        size: snapshot.size(),
-    }
-}
-
-/// The size of a published version, in bytes.
-pub(crate) fn size_in(window: &Window, version: u64) -> Outcome
-    ensures { (limits : Bounds) (s : Store) (b : Blob) → Keeps limits window.now b
-        → result ≡ (unless_refused s (not_published b version ∷ []) (s, Outcomes.Size (size_of b.updates version))).1 }
-{
-    window.stands();
-    match unpublished(window, version) {
-        Some(refusal) => Outcome::Refused(refusal),
-        None => Outcome::Size(window.snapshot().size_at(version)),
-    }
-}
-
-/// Whether a numbered version is published. It takes one look.
-pub(crate) fn sync_in(window: &Window, version: u64) -> Outcome
-    ensures { (limits : Bounds) (s : Store) (b : Blob) → Keeps limits window.now b
-        → result ≡ (unless_refused s (not_numbered b version ∷ pending b version ∷ []) (s, Outcomes.Synced version)).1 }
+// Why a sync of that version is refused, if it is: it was never numbered, or it waits.
+fn unsynced(window: &Window, version: u64) -> Option<Refusal>
+    ensures { (limits : Bounds) (b : Blob) → Keeps limits window.now b → result ≡ first_refusal (not_numbered b version ∷ pending b version ∷ []) }
 {
     let published = window.published();
     if version > window.assigned() {
-        Outcome::Refused(Refusal::NotPublished { version, published })
+        Some(Refusal::NotPublished { version, published })
     } else if version > published {
-        Outcome::Refused(Refusal::Pending {
+        Some(Refusal::Pending {
             version,
             held: held_by(window),
         })
     } else {
-        Outcome::Synced(version)
+        None
     }
 }
 
-/// How far the blob's updates are.
-pub(crate) fn status_in(window: &Window) -> Outcome
-    ensures { (limits : Bounds) (b : Blob) → Keeps limits window.now b → result ≡ Outcomes.Status (assigned b) (published b) (held b) }
+/// What the store answers to a look at the blob that this is the window of.
+pub(crate) fn look_in(window: &Window, look: Look) -> Outcome
+    ensures { (limits : Bounds) (s : Store) (caller blob : ℕ) (b : Blob) → blob_at s blob ≡ Some b → Keeps limits window.now b
+        → result ≡ (answer s caller (look_call look blob)).1 }
 {
-    Outcome::Status {
-        assigned: window.assigned(),
-        published: window.published(),
-        held: held_by(window),
+    window.stands();
+    match look {
+        Look::Recent => {
+            let snapshot = window.snapshot();
+            Outcome::Recent {
+                version: snapshot.version(),
+                size: snapshot.size(),
+            }
+        }
+        Look::Size { version } => match unpublished(window, version) {
+            Some(refusal) => Outcome::Refused(refusal),
+            None => Outcome::Size(window.snapshot().size_at(version)),
+        },
+        Look::Sync { version } => match unsynced(window, version) {
+            Some(refusal) => Outcome::Refused(refusal),
+            None => Outcome::Synced(version),
+        },
+        Look::Status => Outcome::Status {
+            assigned: window.assigned(),
+            published: window.published(),
+            held: held_by(window),
+        },
     }
 }
 

@@ -9,12 +9,12 @@ ghost use Rattle.turn_lock.specs.History.{entries_by, Begins, longer, LacksUngiv
 ghost use Rattle.turn_lock.specs.Shown.{Turned};
 ghost use Rattle.version_manager.specs.Log.{Looked, Changed, MayAssign, IsNewTicket, MayFinish, Finishes, Opened, Reissued, Foreseen, tagged, fixed_of};
 ghost use Rattle.version_manager.specs.Desks.{most_bytes};
+ghost use Rattle.version_manager.specs.Looks.{look_call};
 
-use crate::acts::{
-    Assign, Branch, Create, Finish, Foresee, Open, Recent, Reissue, Size, Status, Sync,
-};
+use crate::acts::{Assign, Branch, Create, Finish, Foresee, LookAt, Open, Reissue};
 use crate::desk::Desk;
 use crate::fault::{DeskFault, OpenFault};
+use crate::look::Look;
 use blob_model::{Outcome, Place, Refusal};
 use border_hints::Ticket;
 use node_store::Row;
@@ -250,6 +250,16 @@ impl SharedDesk {
         self.turn.with_turn(rt, pass, Foresee { blob, place, len })
     }
 
+    /// A look at the blob, in one turn.
+    pub fn look<R: Wait>(&self, rt: &R, pass: &mut Pass, blob: u64, look: Look) -> Outcome
+        requires { pass.old.lock ≡ self.now }
+        ensures pass { pass.new ≡ record pass.old { seen = pass.new.seen; turns = pass.new.turns } }
+        ensures one_turn { pass.new.turns ≡ pass.old.turns + 1 }
+        ensures turned { Turned (λ before f after. Looked f (look_call look blob) before pass.old.caller result after) pass.old pass.new }
+    {
+        self.turn.with_turn(rt, pass, LookAt { blob, look })
+    }
+
     /// The greatest published version of the blob and its size, in one turn.
     pub fn recent<R: Wait>(&self, rt: &R, pass: &mut Pass, blob: u64) -> Outcome
         requires { pass.old.lock ≡ self.now }
@@ -257,7 +267,7 @@ impl SharedDesk {
         ensures one_turn { pass.new.turns ≡ pass.old.turns + 1 }
         ensures turned { Turned (λ before f after. Looked f (Calls.Recent blob) before pass.old.caller result after) pass.old pass.new }
     {
-        self.turn.with_turn(rt, pass, Recent { blob })
+        self.look(rt, pass, blob, Look::Recent)
     }
 
     /// The size of a published version, in one turn.
@@ -267,7 +277,7 @@ impl SharedDesk {
         ensures one_turn { pass.new.turns ≡ pass.old.turns + 1 }
         ensures turned { Turned (λ before f after. Looked f (Calls.Size blob version) before pass.old.caller result after) pass.old pass.new }
     {
-        self.turn.with_turn(rt, pass, Size { blob, version })
+        self.look(rt, pass, blob, Look::Size { version })
     }
 
     /// Whether a numbered version is published, in one turn.
@@ -277,7 +287,7 @@ impl SharedDesk {
         ensures one_turn { pass.new.turns ≡ pass.old.turns + 1 }
         ensures turned { Turned (λ before f after. Looked f (Calls.Sync blob version) before pass.old.caller result after) pass.old pass.new }
     {
-        self.turn.with_turn(rt, pass, Sync { blob, version })
+        self.look(rt, pass, blob, Look::Sync { version })
     }
 
     /// How far the blob's updates are, in one turn.
@@ -287,6 +297,6 @@ impl SharedDesk {
         ensures one_turn { pass.new.turns ≡ pass.old.turns + 1 }
         ensures turned { Turned (λ before f after. Looked f (Calls.Status blob) before pass.old.caller result after) pass.old pass.new }
     {
-        self.turn.with_turn(rt, pass, Status { blob })
+        self.look(rt, pass, blob, Look::Status)
     }
 }

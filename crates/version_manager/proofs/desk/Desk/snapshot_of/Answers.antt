@@ -1,7 +1,7 @@
 use Rattle.std.proofs.Common.{◌≡◌, ℕ, ◌<◌, List, map, length, sym, ◌∙◌, ap, subst, arith}
 use Rattle.std.specs.Prelude.{IfOk, IfErr}
 use Rattle.std.specs.Arc.{arc_value}
-use Rattle.blob_model.specs.Answer.{answer}
+use Rattle.blob_model.specs.Answer.{answer, in_blob}
 use Rattle.blob_model.specs.Content.{Update}
 use Rattle.blob_model.specs.History.{store_of}
 use Rattle.blob_model.specs.declared.call.Call.TheVariants as Calls
@@ -10,14 +10,15 @@ use Rattle.blob_model.specs.declared.call.Refusal.TheVariants as Refusals
 use Rattle.snapshot.specs.Laws.{TellUpdates}
 use Rattle.snapshot.specs.Versions.{Version, IsVersionIn, size_now}
 use Rattle.version_manager.specs.declared.fault.OpenFault.{OpenFault}
+use Rattle.version_manager.specs.declared.look.Look.TheVariants as Looks
 use Rattle.version_manager.specs.Desks.{DeskState, no_window, updates_in, updates_or_none, unopened_size}
 use Rattle.version_manager.specs.Entries.{event_of}
 use Rattle.version_manager.specs.Origins.{LieUnderOrigins, parents_of}
-use Rattle.version_manager.proofs.Desks.{at_index}
+use Rattle.version_manager.proofs.Desks.{absent, at_index}
 use Rattle.version_manager.proofs.Houses.{AreRowsIn, older_in, window_lies}
-use Rattle.version_manager.proofs.Looking.{look_none, look_at, size_in}
+use Rattle.version_manager.proofs.Looking.{look_none}
 use Rattle.version_manager.proofs.Origins.{origins_at, older_under}
-use Rattle.version_manager.proofs.Results.{if_ok, if_err}
+use Rattle.version_manager.proofs.Results.{if_ok}
 use Rattle.version_manager.proofs.desk.Desk.snapshot_of.Goals as goal
 
 pub returns-in-Some-clause-size : goal.returns-in-Some-clause-size
@@ -27,7 +28,7 @@ returns-in-Some-clause-size c = λ caller.
     let x = at_index d.limits d.page_size h d.windows.items c.self.invariant.kept c.args.blob c.in-Some.index _ c.index.result.now d.windows.ok.0 c.in-Some.ensures c.index.ensures in
     let s = store_of d.limits h in
     let P : DeskState → Type 0 = λ v. IfOk c.snapshot_in.result (λ (a : Version). (answer (store_of v.limits v.history) caller (Calls.Size c.args.blob c.args.version)).1 ≡ Outcomes.Size (size_now a)) in
-    subst P c.self.view_is (if_ok c.snapshot_in.result _ _ (λ a e. look_at d.limits d.page_size h d.windows.items c.self.invariant.kept c.args.blob (size_in s c.args.version) x.found ∙ e) (c.snapshot_in.ensures.size d.limits s x.found.b x.keeps))
+    subst P c.self.view_is (rw (x.found.at, in_blob) (c.snapshot_in.ensures.size d.limits s x.found.b x.keeps))
 
 pub returns-in-Some-clause-blob : goal.returns-in-Some-clause-blob
 returns-in-Some-clause-blob c =
@@ -62,10 +63,7 @@ returns-in-Some-clause-not_opened c = λ caller.
     let x = at_index d.limits d.page_size h d.windows.items c.self.invariant.kept c.args.blob c.in-Some.index _ c.index.result.now d.windows.ok.0 c.in-Some.ensures c.index.ensures in
     let s = store_of d.limits h in
     let P : DeskState → Type 0 = λ v. IfErr c.snapshot_in.result (λ (fault : OpenFault). (answer (store_of v.limits v.history) caller (Calls.Size c.args.blob c.args.version)).1 ≡ unopened_size fault) in
-    subst P c.self.view_is (
-    if_err c.snapshot_in.result _ _ (λ fault e. look_at d.limits d.page_size h d.windows.items c.self.invariant.kept c.args.blob (size_in s c.args.version) x.found ∙ e)
-    (c.snapshot_in.ensures.not_opened d.limits s x.found.b x.keeps)
-    )
+    subst P c.self.view_is (rw (x.found.at, in_blob) (c.snapshot_in.ensures.not_opened d.limits s x.found.b x.keeps))
 
 pub returns-in-Some-clause-here : goal.returns-in-Some-clause-here
 returns-in-Some-clause-here c =
@@ -94,6 +92,6 @@ pub returns-in-None-clause-not_opened : goal.returns-in-None-clause-not_opened
 returns-in-None-clause-not_opened c = λ caller.
     let d = c.self.inside in
     let h = map event_of d.history.items in
-    let s = store_of d.limits h in
+    let none = absent d.limits d.page_size h d.windows.items c.self.invariant.kept c.args.blob (λ some. omega (arith, d.windows.ok.0, c.in-None.ensures some)) in
     let P : DeskState → Type 0 = λ v. (answer (store_of v.limits v.history) caller (Calls.Size c.args.blob c.args.version)).1 ≡ Outcomes.Refused (Refusals.NoBlob c.args.blob) in
-    subst P c.self.view_is (look_none d.limits d.page_size h d.windows.items c.self.invariant.kept c.args.blob (size_in s c.args.version) (λ some. omega (arith, d.windows.ok.0, c.in-None.ensures some)))
+    subst P c.self.view_is (look_none (Looks.Size c.args.version) (store_of d.limits h) caller c.args.blob none)

@@ -1,7 +1,0 @@
-use Rattle.blob_model.specs.declared.call.Call.TheVariants as Calls
-use Rattle.version_manager.proofs.Turns.{looked}
-use Rattle.version_manager.proofs.acts.SyncActDesk.act.Goals as goal
-
-pub returns-clause-gives : goal.returns-clause-gives
-returns-clause-gives c =
-    looked c.args.state.now (Calls.Sync c.args.self.blob c.args.self.version) c.args._caller c.sync.result c.stands.ensures.legal c.stands.ensures.short c.stands.ensures.in_order c.sync.ensures
