@@ -24,7 +24,7 @@ use Rattle.blob_core.specs.World.{World, UpdateEntry, IsKnown, bytes_of_pages, A
 use Rattle.blob_core.specs.Woven.{woven, woven_folded}
 use Rattle.blob_core.specs.Steps.{IsAllowed, IsFolded, IsNumberedIn, RowIsThere, next_kept, over_page, folded_page, with_update, with_fold, with_node, with_node_by}
 use Rattle.blob_core.specs.Walk.{page_walk}
-use Rattle.blob_core.specs.Standing.{IsSound, WeavesRow}
+use Rattle.blob_core.specs.Standing.{IsSound, Stays, WeavesRow}
 use Rattle.blob_core.specs.Acts.{IsDone, IsLogOf, IsRowOf, NotNumberedIn, LacksFold, HasFold, AreThere}
 use Rattle.blob_core.specs.declared.nodes.Row.{Row}
 use Rattle.blob_core.specs.declared.world.FoldKey.{FoldKey}
@@ -64,17 +64,6 @@ number_done p w blob pages b u key kept blobs updates there cut bytes taken set 
     }
 
 -- ---- a node
--- the range has a node in the row exactly where it is among the row's ranges
-pub has_in_row : ExtentsStand → RowKeysExact → (p : ℕ) (w : World) (blob version : ℕ) (b : Blob) (log : List Touch) (keys : List Range) (r : Range) → 1 ≤ p → IsSound p w blob b
-    → blob_at w.store blob ≡ Some b → IsRowOf p w blob version log keys → Contains keys r ↔ HasNode p (log_of p b.updates) version r
-has_in_row stand exact p w blob version b log keys r pos sound there row =
-    let same : row.b ≡ b = one_value (blob_at w.store blob) row.b b row.own.there there in
-    let At : Blob → Type 0 = λ x. (version ≤ assigned x) × (keys ≡ row_keys_of p (log_of p x.updates) version) in
-    let of : At b = subst At same (row.own.upto, row.ranges) in
-    let e = exact p version (extents b.updates) r pos (stand b.updates sound.replay).0 row.own.some (omega (arith, of.0, length-extents b.updates)) in
-    let C : List Range → Type 0 = λ l. Contains l r ↔ HasNode p (log_of p b.updates) version r in
-    subst C (sym of.1) e
-
 -- what is answered of a row
 abbrev pub IsFound : ℕ → World → ℕ → ℕ → Option Row → Type 0
 IsFound p w blob version found = MatchOption found (NotNumberedIn w blob version) (λ (r : Row). IsRowOf p w blob version r.log.items r.keys.items)
@@ -85,6 +74,27 @@ numbered_is p w blob version b log keys there row =
     let same : row.b ≡ b = one_value (blob_at w.store blob) row.b b row.own.there there in
     let At : Blob → Type 0 = λ x. IsNumberedIn w blob version x × IsLogOf p x log × (keys ≡ row_keys_of p (log_of p x.updates) version) in
     subst At same (row.own, row.touches, row.ranges)
+
+-- what stands where a version's row was found, and its blob
+pub record RowStands (p : ℕ) (w : World) (blob version : ℕ) (b : Blob) (log : List Touch) (keys : List Range) : Type 0 where
+  pub sound : IsSound p w blob b
+  pub own : IsNumberedIn w blob version b
+  pub touches : IsLogOf p b log
+  pub ranges : keys ≡ row_keys_of p (log_of p b.updates) version
+
+pub row_stands : (p : ℕ) (w : World) (blob version : ℕ) (b : Blob) (found : Option Row) (row : Row) → Stays p w → blob_at w.store blob ≡ Some b → IsFound p w blob version found
+    → found ≡ Some row → RowStands p w blob version b row.log.items row.keys.items
+row_stands p w blob version b found row stays there is same =
+    let num = numbered_is p w blob version b row.log.items row.keys.items there (subst (IsFound p w blob version) same is) in
+    record { sound = stays.blobs blob b there; own = num.0; touches = num.1; ranges = num.2 }
+
+-- the range has a node in the row exactly where it is among the row's ranges
+pub has_in_row : ExtentsStand → RowKeysExact → (p : ℕ) (w : World) (blob version : ℕ) (b : Blob) (log : List Touch) (keys : List Range) (r : Range) → 1 ≤ p
+    → RowStands p w blob version b log keys → Contains keys r ↔ HasNode p (log_of p b.updates) version r
+has_in_row stand exact p w blob version b log keys r pos row =
+    let C : List Range → Type 0 = λ l. Contains l r ↔ HasNode p (log_of p b.updates) version r in
+    subst C (sym row.ranges)
+    (exact p version (extents b.updates) r pos (stand b.updates row.sound.replay).0 row.own.some (omega (arith, row.own.upto, length-extents b.updates)))
 
 -- a node that isn't of the row may not be put
 pub not_of_row : (p : ℕ) (w : World) (key : NodeKey) (b : Blob) → blob_at w.store key.blob ≡ Some b → ¬ HasNode p (log_of p b.updates) key.version key.range

@@ -566,39 +566,47 @@ read_root c p us v pos ok some within bytes =
     let H : Range → Type 0 = λ r. HasNode p (log_of p us) v r in
     subst H (root_is p (log_of p us) v (size_after (extents us) v) (size_in_log p us v within) bytes) (c.roots p v (extents us) pos ok some (omega (arith, length-extents us)))
 
-read_bytes : (c : Cited) (p : ℕ) (w : World) (blob : ℕ) (b : Blob) (v o n : ℕ) → 1 ≤ p → Stands p w → BlobStands p w blob b → v ≤ published b
-    → 1 ≤ n → 1 ≤ v → o + n ≤ size_of b.updates v
-    → ReadIs (cut_out p o n (tree_walk_from (height_of p (size_after (extents b.updates) v)) p w blob v 0 (o / p) ((o + n - 1) / p)))
-    (take n (drop o (content b.updates v))) (visits p (extents b.updates) v o n)
-read_bytes c p w blob b v o n pos s bs upto some numbered inside =
+-- a walk from the root of a published version brings the pages from the first to the last
+root_pages : (c : Cited) (p : ℕ) (w : World) (blob : ℕ) (b : Blob) (v first last : ℕ) → 1 ≤ p → Stands p w → BlobStands p w blob b → v ≤ published b → 1 ≤ v
+    → first ≤ last → last * p < size_of b.updates v
+    → PagesAre (tree_walk_from (height_of p (size_after (extents b.updates) v)) p w blob v 0 first last) p b.updates v first (last + 1)
+    (nodes_visited (height_of p (size_after (extents b.updates) v)) 0 first last)
+root_pages c p w blob b v first last pos s bs upto numbered le inside =
     let us : List Update = b.updates in
     let xs : List Extent = extents us in
     let log : List Touch = log_of p us in
-    let first : ℕ = o / p in
-    let last : ℕ = (o + n - 1) / p in
     let top : ℕ = height_of p (size_after xs v) in
-    let ok : InBounds xs = in_bounds c us bs.replay in
     let within : v ≤ length us = omega (arith, published_within p w blob b bs) in
     let size : size_after xs v ≡ size_of us v = (c.stand us bs.replay).2 v within in
     let at : size_at log v ≡ size_after xs v = size_in_log p us v within in
-    let le : first ≤ last = first_upto_last p o n pos some in
     let enough : size_after xs v ≤ p * 2 ^ top = height_enough p (size_after xs v) pos in
-    let short : last < 2 ^ top = div_below (o + n - 1) p (2 ^ top) pos (omega arith) in
-    let low : first * p ≤ o = begins_before p o in
-    let low_last : last * p ≤ o + n - 1 = begins_before p (o + n - 1) in
-    let high : o + n - 1 < (last + 1) * p = ends_after p (o + n - 1) pos in
-    let root : HasNode p log v (tree_range p top 0) = read_root c p us v pos ok numbered within (omega arith) in
+    let few : last * p / p ≡ last = mul-div_cancel last pos in
+    let short : last < 2 ^ top = (let d : last * p / p < 2 ^ top = div_below (last * p) p (2 ^ top) pos (omega arith) in omega (arith, d, few)) in
+    let root : HasNode p log v (tree_range p top 0) = read_root c p us v pos (in_bounds c us bs.replay) numbered within (omega arith) in
     let enters : Enters p us v v top 0 first last = λ a e. (root, newest_self c p log v (tree_range p top 0) root) in
     let pages = tree_pages c p w blob b v first last pos s bs upto le (omega arith) top 0 v enters in
     let one : (0 + 1) * 2 ^ top ≡ 2 ^ top = omega arith in
     let from : clamp first last (0 * 2 ^ top) ≡ first = omega arith in
     let to : clamp first last ((0 + 1) * 2 ^ top) ≡ last + 1 = omega arith in
-    let is : PagesAre (tree_walk_from top p w blob v 0 first last) p us v first (last + 1) (nodes_visited top 0 first last) =
     pages_at (tree_walk_from top p w blob v 0 first last) p us v (clamp first last (0 * 2 ^ top)) (clamp first last ((0 + 1) * 2 ^ top)) (nodes_visited top 0 first last)
-    first (last + 1) (nodes_visited top 0 first last) pages from to refl in
-    let few = c.bounded p v o n xs pos some (omega arith) in
+    first (last + 1) (nodes_visited top 0 first last) pages from to refl
+
+read_bytes : (c : Cited) (p : ℕ) (w : World) (blob : ℕ) (b : Blob) (v o n : ℕ) → 1 ≤ p → Stands p w → BlobStands p w blob b → v ≤ published b
+    → 1 ≤ n → 1 ≤ v → o + n ≤ size_of b.updates v
+    → ReadIs (cut_out p o n (tree_walk_from (height_of p (size_after (extents b.updates) v)) p w blob v 0 (o / p) ((o + n - 1) / p)))
+    (take n (drop o (content b.updates v))) (visits p (extents b.updates) v o n)
+read_bytes c p w blob b v o n pos s bs upto some numbered inside =
+    let first : ℕ = o / p in
+    let last : ℕ = (o + n - 1) / p in
+    let stand = c.stand b.updates bs.replay in
+    let size : size_after (extents b.updates) v ≡ size_of b.updates v = stand.2 v (omega (arith, published_within p w blob b bs)) in
+    let low_last : last * p ≤ o + n - 1 = begins_before p (o + n - 1) in
+    let high : o + n - 1 < (last + 1) * p = ends_after p (o + n - 1) pos in
+    let is = root_pages c p w blob b v first last pos s bs upto numbered (first_upto_last p o n pos some) (omega arith) in
+    let few = c.bounded p v o n (extents b.updates) pos some (omega arith) in
     record {
-      bytes = ap (λ (l : List ℕ). take n (drop (o - first * p) l)) is.bytes ∙ cut_slice (content us v) (first * p) ((last + 1) * p) o n low (omega arith);
+      bytes = ap (λ (l : List ℕ). take n (drop (o - first * p) l)) is.bytes
+          ∙ cut_slice (content b.updates v) (first * p) ((last + 1) * p) o n (begins_before p o) (omega arith);
       nodes = omega (arith, is.nodes, few);
     }
 
@@ -616,24 +624,4 @@ read_is c p w blob b (suc v) o (suc n) pos s bs upto inside =
 -- a walk to one page of a published version brings the page's valid bytes
 pub page_walk_is : (c : Cited) (p : ℕ) (w : World) (blob : ℕ) (b : Blob) (v i : ℕ) → 1 ≤ p → Stands p w → BlobStands p w blob b → v ≤ published b
     → 1 ≤ v → i * p < size_of b.updates v → page_walk p w blob b v i ≡ page_bytes p b.updates v i
-page_walk_is c p w blob b v i pos s bs upto numbered inside =
-    let us : List Update = b.updates in
-    let xs : List Extent = extents us in
-    let log : List Touch = log_of p us in
-    let top : ℕ = height_of p (size_after xs v) in
-    let ok : InBounds xs = in_bounds c us bs.replay in
-    let within : v ≤ length us = omega (arith, published_within p w blob b bs) in
-    let size : size_after xs v ≡ size_of us v = (c.stand us bs.replay).2 v within in
-    let at : size_at log v ≡ size_after xs v = size_in_log p us v within in
-    let enough : size_after xs v ≤ p * 2 ^ top = height_enough p (size_after xs v) pos in
-    let few : i * p / p ≡ i = mul-div_cancel i pos in
-    let short : i < 2 ^ top = (let d : i * p / p < 2 ^ top = div_below (i * p) p (2 ^ top) pos (omega arith) in omega (arith, d, few)) in
-    let root : HasNode p log v (tree_range p top 0) = read_root c p us v pos ok numbered within (omega arith) in
-    let enters : Enters p us v v top 0 i i = λ a e. (root, newest_self c p log v (tree_range p top 0) root) in
-    let pages = tree_pages c p w blob b v i i pos s bs upto (omega arith) (omega arith) top 0 v enters in
-    let one : (0 + 1) * 2 ^ top ≡ 2 ^ top = omega arith in
-    let from : clamp i i (0 * 2 ^ top) ≡ i = omega arith in
-    let to : clamp i i ((0 + 1) * 2 ^ top) ≡ i + 1 = omega arith in
-    let is : PagesAre (tree_walk_from top p w blob v 0 i i) p us v i (i + 1) (nodes_visited top 0 i i) =
-    pages_at (tree_walk_from top p w blob v 0 i i) p us v (clamp i i (0 * 2 ^ top)) (clamp i i ((0 + 1) * 2 ^ top)) (nodes_visited top 0 i i) i (i + 1) (nodes_visited top 0 i i) pages from to refl in
-    is.bytes ∙ page_slice p us v i
+page_walk_is c p w blob b v i pos s bs upto numbered inside = (root_pages c p w blob b v i i pos s bs upto numbered (omega arith) inside).bytes ∙ page_slice p b.updates v i

@@ -126,6 +126,21 @@ log_tells stand p b log l = log_is stand p b.updates log l.replay l.is
 pub has_version : (p : ℕ) (us : List Update) (k : ℕ) (r : Range) → HasNode p (log_of p us) k r → (1 ≤ k) × (k ≤ length us)
 has_version p us k r has = (has.version.0, omega (arith, has.version.1, length_log p us))
 
+-- what stands of a version that has a row, in a log of the blob's updates
+pub record VersionStands (p : ℕ) (b : Blob) (log : List Touch) (k : ℕ) : Type 0 where
+  pub some : 1 ≤ k
+  pub upto : k ≤ length b.updates
+  pub count : length log ≡ length b.updates
+  pub sizes : (v : ℕ) → v ≤ length b.updates → size_at log v ≡ size_of b.updates v
+  pub small : size_at log k ≤ 2 ^ 40
+  pub within : k ≤ length log
+
+pub version_stands : ExtentsStand → (p : ℕ) (b : Blob) (log : List Touch) (k : ℕ) (r : Range) → IsLogOf p b log → HasNode p (log_of p b.updates) k r → VersionStands p b log k
+version_stands stand p b log k r l has =
+    let v = has_version p b.updates k r has in
+    let (count, sizes) = log_tells stand p b log l in
+    record { some = v.0; upto = v.1; count = count; sizes = sizes; small = omega (arith, sizes k v.1, l.fits k v.1); within = omega (arith, count, v.1) }
+
 -- the range of a row ends where a tree may end
 pub range_fits : (p : ℕ) (us : List Update) (log : List Touch) (k n : ℕ) (r : Range) → log ≡ log_of p us → HasNode p (log_of p us) k r → n ≡ size_at log k → span_of p n ≤ 2 ^ 40
     → r.offset + r.size ≤ 2 ^ 40

@@ -1,18 +1,18 @@
-use Rattle.std.proofs.Common.{arith, sym, ◌∙◌}
+use Rattle.std.proofs.Common.{◌≤◌, ◌^◌, ◌+◌, arith, sym, ◌∙◌}
 use Rattle.std.specs.Prelude.{true, false}
 use Rattle.tree_geom.specs.Geometry.{page_range}
-use Rattle.blob_core.proofs.Rowing.{has_version, log_tells, first_fits, place_first, place_other}
+use Rattle.blob_core.proofs.Rowing.{VersionStands, version_stands, first_fits, place_first, place_other}
 use Rattle.blob_core.proofs.leaves.fold_place.Goals as goal
-use Rattle.blob_core.proofs.leaves.fold_place.Goals.{else-page-first-via-then-page-first+else-is_folded, else-page-first-via-else-page-first}
+use Rattle.blob_core.proofs.leaves.fold_place.Goals.{After-page_bytes_stay, else-page-first-via-then-page-first+else-is_folded, else-page-first-via-else-page-first}
+
+stands : (c : After-page_bytes_stay) → VersionStands c.args.p c.args.blob.now c.args.log.now c.args.version
+stands c = version_stands c.page_bytes_stay.ensures.extents c.args.p c.args.blob.now c.args.log.now c.args.version (page_range c.args.p c.args.page) c.requires.log c.requires.has
 
 pub span_stands-requires : goal.span_stands-requires
-span_stands-requires c =
-    let v = has_version c.args.p c.args.blob.now.updates c.args.version (page_range c.args.p c.args.page) c.requires.has in
-    let tells = log_tells c.page_bytes_stay.ensures.extents c.args.p c.args.blob.now c.args.log.now c.requires.log in
-    omega (arith, c.size_at.ensures, tells.1 c.args.version v.1, c.requires.log.fits c.args.version v.1)
+span_stands-requires c = omega (arith, c.size_at.ensures, (stands (goal.at.span_stands-requires c).After-page_bytes_stay).small)
 
 pub is_folded-requires-clause-version : goal.is_folded-requires-clause-version
-is_folded-requires-clause-version c = has_version c.args.p c.args.blob.now.updates c.args.version (page_range c.args.p c.args.page) c.requires.has
+is_folded-requires-clause-version c = let v = stands (goal.at.is_folded-requires-clause-version c).After-page_bytes_stay in (v.some, v.upto)
 
 pub is_folded-requires-clause-fits : goal.is_folded-requires-clause-fits
 is_folded-requires-clause-fits c =

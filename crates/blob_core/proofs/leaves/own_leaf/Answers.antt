@@ -1,4 +1,4 @@
-use Rattle.std.proofs.Common.{◌≡◌, ℕ, ◌+◌, ◌-◌, List, arith, ap, ◌∙◌}
+use Rattle.std.proofs.Common.{◌≤◌, ◌^◌, ◌≡◌, ℕ, ◌+◌, ◌-◌, List, arith, ap, ◌∙◌}
 use Rattle.blob_model.specs.Content.{Update}
 use Rattle.tree_geom.specs.declared.range.Range.{Range}
 use Rattle.tree_geom.specs.declared.touch.Touch.{Touch}
@@ -8,71 +8,55 @@ use Rattle.range_log.specs.Log.{newest_of}
 use Rattle.range_log.specs.Extents.{touches}
 use Rattle.range_log.specs.Updates.{extents}
 use Rattle.range_log.specs.Rows.{back_of}
-use Rattle.blob_core.proofs.Rowing.{has_version, log_tells, range_fits, back_is, own_leaf_is}
+use Rattle.blob_core.proofs.Rowing.{VersionStands, version_stands, range_fits, back_is, own_leaf_is}
 use Rattle.blob_core.proofs.leaves.own_leaf.Goals as goal
-use Rattle.blob_core.proofs.leaves.own_leaf.Goals.{then-is_covered, else-is_covered}
+use Rattle.blob_core.proofs.leaves.own_leaf.Goals.{After-page_bytes_stay, After-span_stands, then-is_covered, else-is_covered}
+
+stands : (c : After-page_bytes_stay) → VersionStands c.args.p c.args.blob.now c.args.log.now c.args.version
+stands c = version_stands c.page_bytes_stay.ensures.extents c.args.p c.args.blob.now c.args.log.now c.args.version (page_range c.args.p c.args.page) c.requires.log c.requires.has
+
+-- the range ends where a tree may end
+ends : (c : After-span_stands) → (page_range c.args.p c.args.page).offset + (page_range c.args.p c.args.page).size ≤ 2 ^ 40
+ends c =
+    range_fits c.args.p c.args.blob.now.updates c.args.log.now c.args.version c.size_at.result (page_range c.args.p c.args.page) c.requires.log.is c.requires.has c.size_at.ensures
+    c.span_stands.ensures.fits
 
 pub size_at-requires : goal.size_at-requires
-size_at-requires c =
-    let v = has_version c.args.p c.args.blob.now.updates c.args.version (page_range c.args.p c.args.page) c.requires.has in
-    let tells = log_tells c.page_bytes_stay.ensures.extents c.args.p c.args.blob.now c.args.log.now c.requires.log in
-    omega (arith, tells.0, v.1)
+size_at-requires c = (stands (goal.at.size_at-requires c).After-page_bytes_stay).within
 
 pub span_stands-requires : goal.span_stands-requires
-span_stands-requires c =
-    let v = has_version c.args.p c.args.blob.now.updates c.args.version (page_range c.args.p c.args.page) c.requires.has in
-    let tells = log_tells c.page_bytes_stay.ensures.extents c.args.p c.args.blob.now c.args.log.now c.requires.log in
-    omega (arith, c.size_at.ensures, tells.1 c.args.version v.1, c.requires.log.fits c.args.version v.1)
+span_stands-requires c = omega (arith, c.size_at.ensures, (stands (goal.at.span_stands-requires c).After-page_bytes_stay).small)
 
 pub is_covered-requires-clause-version : goal.is_covered-requires-clause-version
-is_covered-requires-clause-version c = has_version c.args.p c.args.blob.now.updates c.args.version (page_range c.args.p c.args.page) c.requires.has
+is_covered-requires-clause-version c = let v = stands (goal.at.is_covered-requires-clause-version c).After-page_bytes_stay in (v.some, v.upto)
 
 pub is_covered-requires-clause-fits : goal.is_covered-requires-clause-fits
-is_covered-requires-clause-fits c =
-    let fits =
-    range_fits c.args.p c.args.blob.now.updates c.args.log.now c.args.version c.size_at.result (page_range c.args.p c.args.page) c.requires.log.is c.requires.has c.size_at.ensures
-    c.span_stands.ensures.fits in
-    omega (arith, fits)
+is_covered-requires-clause-fits c = omega (arith, ends (goal.at.is_covered-requires-clause-fits c).After-span_stands)
 
 pub overflow_sub-version : goal.overflow_sub-version
-overflow_sub-version c = (has_version c.args.p c.args.blob.now.updates c.args.version (page_range c.args.p c.args.page) c.requires.has).0
+overflow_sub-version c = (stands (goal.at.overflow_sub-version c).After-page_bytes_stay).some
 
 pub range_of_page-requires : goal.range_of_page-requires
-range_of_page-requires c =
-    let fits =
-    range_fits c.args.p c.args.blob.now.updates c.args.log.now c.args.version c.size_at.result (page_range c.args.p c.args.page) c.requires.log.is c.requires.has c.size_at.ensures
-    c.span_stands.ensures.fits in
-    omega (arith, fits)
+range_of_page-requires c = omega (arith, ends (goal.at.range_of_page-requires c).After-span_stands)
 
 pub newest-back-requires-clause-within : goal.newest-back-requires-clause-within
-newest-back-requires-clause-within c =
-    let v = has_version c.args.p c.args.blob.now.updates c.args.version (page_range c.args.p c.args.page) c.requires.has in
-    let tells = log_tells c.page_bytes_stay.ensures.extents c.args.p c.args.blob.now c.args.log.now c.requires.log in
-    omega (arith, tells.0, v.1)
+newest-back-requires-clause-within c = omega (arith, (stands (goal.at.newest-back-requires-clause-within c).After-page_bytes_stay).within)
 
 pub newest-back-requires-clause-fits : goal.newest-back-requires-clause-fits
 newest-back-requires-clause-fits c =
-    let fits =
-    range_fits c.args.p c.args.blob.now.updates c.args.log.now c.args.version c.size_at.result (page_range c.args.p c.args.page) c.requires.log.is c.requires.has c.size_at.ensures
-    c.span_stands.ensures.fits in
     let E : Range → ℕ = λ r. r.offset + r.size in
-    omega (arith, fits, ap E c.range_of_page.ensures)
+    omega (arith, ends (goal.at.newest-back-requires-clause-fits c).After-span_stands, ap E c.range_of_page.ensures)
 
 pub depth_at-depth-requires-clause-version : goal.depth_at-depth-requires-clause-version
-depth_at-depth-requires-clause-version c =
-    let v = has_version c.args.p c.args.blob.now.updates c.args.version (page_range c.args.p c.args.page) c.requires.has in
-    let tells = log_tells c.page_bytes_stay.ensures.extents c.args.p c.args.blob.now c.args.log.now c.requires.log in
-    omega (arith, tells.0, v.1)
+depth_at-depth-requires-clause-version c = (stands (goal.at.depth_at-depth-requires-clause-version c).After-page_bytes_stay).within
 
 pub depth_at-depth-requires-clause-few : goal.depth_at-depth-requires-clause-few
 depth_at-depth-requires-clause-few c =
-    let v = has_version c.args.p c.args.blob.now.updates c.args.version (page_range c.args.p c.args.page) c.requires.has in
-    omega (arith, v.1, c.requires.log.few)
+    let v = stands (goal.at.depth_at-depth-requires-clause-few c).After-page_bytes_stay in
+    omega (arith, v.upto, c.requires.log.few)
 
 pub depth_at-depth-requires-clause-fits : goal.depth_at-depth-requires-clause-fits
-depth_at-depth-requires-clause-fits c =
-    range_fits c.args.p c.args.blob.now.updates c.args.log.now c.args.version c.size_at.result (page_range c.args.p c.args.page) c.requires.log.is c.requires.has c.size_at.ensures
-    c.span_stands.ensures.fits
+depth_at-depth-requires-clause-fits c = ends (goal.at.depth_at-depth-requires-clause-fits c).After-span_stands
 
 pub returns : goal.returns
 returns c =

@@ -1,11 +1,21 @@
-use Rattle.std.proofs.Common.{◌≡◌, ℕ, ◌+◌, ◌/◌, ◌≤◌, List, arith, ap, sym, subst}
+use Rattle.std.proofs.Common.{◌^◌, ◌≡◌, ℕ, ◌+◌, ◌/◌, ◌≤◌, List, arith, ap, sym, subst}
 use Rattle.blob_model.specs.Content.{Update}
 use Rattle.tree_geom.specs.declared.range.Range.{Range}
 use Rattle.tree_geom.specs.Geometry.{page_range}
 use Rattle.range_log.specs.Log.{HasNode}
 use Rattle.blob_core.specs.World.{log_of}
-use Rattle.blob_core.proofs.Rowing.{has_version, log_tells, range_fits, even_size, page_of}
+use Rattle.blob_core.proofs.Rowing.{VersionStands, version_stands, range_fits, even_size, page_of}
 use Rattle.blob_core.proofs.nodes.row_node.Goals as goal
+use Rattle.blob_core.proofs.nodes.row_node.Goals.{After-page_bytes_stay, After-span_stands}
+
+stands : (c : After-page_bytes_stay) → VersionStands c.args.p c.args.blob.now c.args.log.now c.args.version
+stands c = version_stands c.page_bytes_stay.ensures.extents c.args.p c.args.blob.now c.args.log.now c.args.version c.args.range c.requires.log c.requires.has
+
+-- the range ends where a tree may end
+ends : (c : After-span_stands) → (c.args.range).offset + (c.args.range).size ≤ 2 ^ 40
+ends c =
+    range_fits c.args.p c.args.blob.now.updates c.args.log.now c.args.version c.size_at.result c.args.range c.requires.log.is c.requires.has c.size_at.ensures
+    c.span_stands.ensures.fits
 
 pub row_leaf-requires-clause-has : goal.row_leaf-requires-clause-has
 row_leaf-requires-clause-has c =
@@ -18,16 +28,10 @@ row_leaf-requires-clause-has c =
     subst I (sym c.bytes-then-range-bytes.ensures.is) (subst H page c.requires.has)
 
 pub size_at-requires : goal.size_at-requires
-size_at-requires c =
-    let v = has_version c.args.p c.args.blob.now.updates c.args.version c.args.range c.requires.has in
-    let tells = log_tells c.page_bytes_stay.ensures.extents c.args.p c.args.blob.now c.args.log.now c.requires.log in
-    omega (arith, tells.0, v.1)
+size_at-requires c = (stands (goal.at.size_at-requires c).After-page_bytes_stay).within
 
 pub span_stands-requires : goal.span_stands-requires
-span_stands-requires c =
-    let v = has_version c.args.p c.args.blob.now.updates c.args.version c.args.range c.requires.has in
-    let tells = log_tells c.page_bytes_stay.ensures.extents c.args.p c.args.blob.now c.args.log.now c.requires.log in
-    omega (arith, c.size_at.ensures, tells.1 c.args.version v.1, c.requires.log.fits c.args.version v.1)
+span_stands-requires c = omega (arith, c.size_at.ensures, (stands (goal.at.span_stands-requires c).After-page_bytes_stay).small)
 
 pub halves-requires-clause-even : goal.halves-requires-clause-even
 halves-requires-clause-even c =
@@ -35,34 +39,20 @@ halves-requires-clause-even c =
     even_size c.args.p c.args.range pos c.requires.has.aligned (λ same. omega (arith, same, c.if-range-bytes.false, c.bytes.ensures.is))
 
 pub halves-requires-clause-fits : goal.halves-requires-clause-fits
-halves-requires-clause-fits c =
-    range_fits c.args.p c.args.blob.now.updates c.args.log.now c.args.version c.size_at.result c.args.range c.requires.log.is c.requires.has c.size_at.ensures
-    c.span_stands.ensures.fits
+halves-requires-clause-fits c = ends (goal.at.halves-requires-clause-fits c).After-span_stands
 
 pub newest-requires-clause-within : goal.newest-requires-clause-within
-newest-requires-clause-within c =
-    let v = has_version c.args.p c.args.blob.now.updates c.args.version c.args.range c.requires.has in
-    let tells = log_tells c.page_bytes_stay.ensures.extents c.args.p c.args.blob.now c.args.log.now c.requires.log in
-    omega (arith, tells.0, v.1)
+newest-requires-clause-within c = (stands (goal.at.newest-requires-clause-within c).After-page_bytes_stay).within
 
 pub newest-requires-2-clause-within : goal.newest-requires-2-clause-within
-newest-requires-2-clause-within c =
-    let v = has_version c.args.p c.args.blob.now.updates c.args.version c.args.range c.requires.has in
-    let tells = log_tells c.page_bytes_stay.ensures.extents c.args.p c.args.blob.now c.args.log.now c.requires.log in
-    omega (arith, tells.0, v.1)
+newest-requires-2-clause-within c = (stands (goal.at.newest-requires-2-clause-within c).After-page_bytes_stay).within
 
 pub newest-requires-clause-fits : goal.newest-requires-clause-fits
 newest-requires-clause-fits c =
-    let fits =
-    range_fits c.args.p c.args.blob.now.updates c.args.log.now c.args.version c.size_at.result c.args.range c.requires.log.is c.requires.has c.size_at.ensures
-    c.span_stands.ensures.fits in
     let E : Range → ℕ = λ r. r.offset + r.size in
-    omega (arith, fits, ap E c.halves.ensures.lower)
+    omega (arith, ends (goal.at.newest-requires-clause-fits c).After-span_stands, ap E c.halves.ensures.lower)
 
 pub newest-requires-2-clause-fits : goal.newest-requires-2-clause-fits
 newest-requires-2-clause-fits c =
-    let fits =
-    range_fits c.args.p c.args.blob.now.updates c.args.log.now c.args.version c.size_at.result c.args.range c.requires.log.is c.requires.has c.size_at.ensures
-    c.span_stands.ensures.fits in
     let E : Range → ℕ = λ r. r.offset + r.size in
-    omega (arith, fits, ap E c.halves.ensures.upper)
+    omega (arith, ends (goal.at.newest-requires-2-clause-fits c).After-span_stands, ap E c.halves.ensures.upper)

@@ -13,46 +13,46 @@ use Rattle.branching.specs.declared.Parent.{Parent}
 use Rattle.blob_core.specs.declared.world.UpdateKey.{UpdateKey}
 use Rattle.blob_core.proofs.Walking.{leaf_last, leaf_gone, leaf_unkept, leaf_inner, leaf_on}
 use Rattle.blob_core.proofs.state.State.+leaf_bytes.Goals as goal
-use Rattle.blob_core.proofs.state.State.+leaf_bytes.Goals.{then-back-eq0, else-back-eq0+in_ok-older}
+use Rattle.blob_core.proofs.state.State.+leaf_bytes.Goals.{After-bytes-2, After-find_kept, then-back-eq0, else-back-eq0+in_ok-older}
 
 pub returns-then-most-eq0 : goal.returns-then-most-eq0
 returns-then-most-eq0 t c = c.new-own.ensures.items ∙ sym (leaf_last c.args.most c.args.p c.args.self.now c.args.blob c.args.version c.args.page c.if-most-eq0.true)
 
+node_here : {t : ℕ} (c : After-bytes-2 t) → node_in c.args.self.now c.args.blob c.args.version (page_range c.args.p c.args.page)
+    ≡ node_in c.args.self.now c.args.blob c.args.version (record { offset = c.args.page * c.bytes.result; size = c.bytes-2.result })
+node_here c =
+    let R : ℕ → ℕ → Range = λ a b. record { offset = c.args.page * a; size = b } in
+    ap (λ (r : Range). node_in c.args.self.now c.args.blob c.args.version r) (sym (ap (λ (a : ℕ). R a c.bytes-2.result) c.bytes.ensures.is ∙ ap (λ (b : ℕ). R c.args.p b) c.bytes-2.ensures.is))
+
+kept_here : {t : ℕ} (c : After-find_kept t) → kept_at c.args.self.now.updates (origin c.args.self.now c.args.blob c.args.version) c.args.version
+    ≡ kept_at c.as_slice-2.result.now c.origin-numbered_in.result c.args.version
+kept_here c =
+    let w : World = c.args.self.now in
+    let own : c.origin-numbered_in.result ≡ origin w c.args.blob c.args.version =
+    c.origin-numbered_in.ensures ∙ ap (λ (l : List (Option Parent)). origin_of l c.args.blob c.args.version) (c.as_slice.ensures.value ∙ ap (λ (x : World). x.lineage) c.self.view_is) in
+    let updates : c.as_slice-2.result.now ≡ w.updates = c.as_slice-2.ensures.value ∙ ap (λ (x : World). x.updates) c.self.view_is in
+    ap (λ (o : ℕ). kept_at w.updates o c.args.version) (sym own) ∙ ap (λ (l : List (UpdateKey × UpdateEntry)). kept_at l c.origin-numbered_in.result c.args.version) (sym updates)
+
 pub returns-in_default : goal.returns-in_default
 returns-in_default t c =
     let w : World = c.args.self.now in
-    let R : ℕ → ℕ → Range = λ a b. record { offset = c.args.page * a; size = b } in
-    let same : R c.bytes.result c.bytes-2.result ≡ page_range c.args.p c.args.page = ap (λ (a : ℕ). R a c.bytes-2.result) c.bytes.ensures.is ∙ ap (λ (b : ℕ). R c.args.p b) c.bytes-2.ensures.is in
-    let at : node_in w c.args.blob c.args.version (page_range c.args.p c.args.page) ≡ node_in w c.args.blob c.args.version (R c.bytes.result c.bytes-2.result) =
-    ap (λ (r : Range). node_in w c.args.blob c.args.version r) (sym same) in
+    let at = node_here (goal.at.returns-in_default t c).After-bytes-2 in
     c.new-own.ensures.items ∙ sym (leaf_gone c.args.most c.args.p w c.args.blob c.args.version c.args.page (at ∙ sym c.in_default.ensures))
 
 pub returns-in_default-find_kept : goal.returns-in_default-find_kept
 returns-in_default-find_kept t c =
     let w : World = c.args.self.now in
-    let R : ℕ → ℕ → Range = λ a b. record { offset = c.args.page * a; size = b } in
-    let same : R c.bytes.result c.bytes-2.result ≡ page_range c.args.p c.args.page = ap (λ (a : ℕ). R a c.bytes-2.result) c.bytes.ensures.is ∙ ap (λ (b : ℕ). R c.args.p b) c.bytes-2.ensures.is in
-    let at : node_in w c.args.blob c.args.version (page_range c.args.p c.args.page) ≡ node_in w c.args.blob c.args.version (R c.bytes.result c.bytes-2.result) =
-    ap (λ (r : Range). node_in w c.args.blob c.args.version r) (sym same) in
-    let own : c.origin-numbered_in.result ≡ origin w c.args.blob c.args.version =
-    c.origin-numbered_in.ensures ∙ ap (λ (l : List (Option Parent)). origin_of l c.args.blob c.args.version) (c.as_slice.ensures.value ∙ ap (λ (x : World). x.lineage) c.self.view_is) in
-    let updates : c.as_slice-2.result.now ≡ w.updates = c.as_slice-2.ensures.value ∙ ap (λ (x : World). x.updates) c.self.view_is in
-    let there : kept_at w.updates (origin w c.args.blob c.args.version) c.args.version ≡ kept_at c.as_slice-2.result.now c.origin-numbered_in.result c.args.version =
-    ap (λ (o : ℕ). kept_at w.updates o c.args.version) (sym own) ∙ ap (λ (l : List (UpdateKey × UpdateEntry)). kept_at l c.origin-numbered_in.result c.args.version) (sym updates) in
+    let here = goal.at.returns-in_default-find_kept t c in
+    let at = node_here here.After-bytes-2 in
+    let there = kept_here here.After-find_kept in
     c.new-own.ensures.items ∙ sym (leaf_unkept c.args.most c.args.p w c.args.blob c.args.version c.args.page c.in-Some.node (at ∙ sym c.in-Some.ensures) (there ∙ c.in_default-find_kept.ensures))
 
 pub returns-in_default-node : goal.returns-in_default-node
 returns-in_default-node t c =
     let w : World = c.args.self.now in
-    let R : ℕ → ℕ → Range = λ a b. record { offset = c.args.page * a; size = b } in
-    let same : R c.bytes.result c.bytes-2.result ≡ page_range c.args.p c.args.page = ap (λ (a : ℕ). R a c.bytes-2.result) c.bytes.ensures.is ∙ ap (λ (b : ℕ). R c.args.p b) c.bytes-2.ensures.is in
-    let at : node_in w c.args.blob c.args.version (page_range c.args.p c.args.page) ≡ node_in w c.args.blob c.args.version (R c.bytes.result c.bytes-2.result) =
-    ap (λ (r : Range). node_in w c.args.blob c.args.version r) (sym same) in
-    let own : c.origin-numbered_in.result ≡ origin w c.args.blob c.args.version =
-    c.origin-numbered_in.ensures ∙ ap (λ (l : List (Option Parent)). origin_of l c.args.blob c.args.version) (c.as_slice.ensures.value ∙ ap (λ (x : World). x.lineage) c.self.view_is) in
-    let updates : c.as_slice-2.result.now ≡ w.updates = c.as_slice-2.ensures.value ∙ ap (λ (x : World). x.updates) c.self.view_is in
-    let there : kept_at w.updates (origin w c.args.blob c.args.version) c.args.version ≡ kept_at c.as_slice-2.result.now c.origin-numbered_in.result c.args.version =
-    ap (λ (o : ℕ). kept_at w.updates o c.args.version) (sym own) ∙ ap (λ (l : List (UpdateKey × UpdateEntry)). kept_at l c.origin-numbered_in.result c.args.version) (sym updates) in
+    let here = goal.at.returns-in_default-node t c in
+    let at = node_here here.After-bytes-2 in
+    let there = kept_here here.After-find_kept in
     let some : Node → Option Node = λ n. Some n in
     c.new-own.ensures.items
     ∙ sym (leaf_inner c.args.most c.args.p w c.args.blob c.args.version c.args.page (Inner c.in_default-node.field-0 c.in_default-node.field-1) c.in-Some-find_kept.kept.now refl (at ∙ sym c.in-Some.ensures ∙ ap some c.in_default-node.is) (there ∙ c.in-Some-find_kept.ensures))
@@ -60,15 +60,9 @@ returns-in_default-node t c =
 pub returns : goal.returns
 returns t c =
     let w : World = c.args.self.now in
-    let R : ℕ → ℕ → Range = λ a b. record { offset = c.args.page * a; size = b } in
-    let same : R c.bytes.result c.bytes-2.result ≡ page_range c.args.p c.args.page = ap (λ (a : ℕ). R a c.bytes-2.result) c.bytes.ensures.is ∙ ap (λ (b : ℕ). R c.args.p b) c.bytes-2.ensures.is in
-    let at : node_in w c.args.blob c.args.version (page_range c.args.p c.args.page) ≡ node_in w c.args.blob c.args.version (R c.bytes.result c.bytes-2.result) =
-    ap (λ (r : Range). node_in w c.args.blob c.args.version r) (sym same) in
-    let own : c.origin-numbered_in.result ≡ origin w c.args.blob c.args.version =
-    c.origin-numbered_in.ensures ∙ ap (λ (l : List (Option Parent)). origin_of l c.args.blob c.args.version) (c.as_slice.ensures.value ∙ ap (λ (x : World). x.lineage) c.self.view_is) in
-    let updates : c.as_slice-2.result.now ≡ w.updates = c.as_slice-2.ensures.value ∙ ap (λ (x : World). x.updates) c.self.view_is in
-    let there : kept_at w.updates (origin w c.args.blob c.args.version) c.args.version ≡ kept_at c.as_slice-2.result.now c.origin-numbered_in.result c.args.version =
-    ap (λ (o : ℕ). kept_at w.updates o c.args.version) (sym own) ∙ ap (λ (l : List (UpdateKey × UpdateEntry)). kept_at l c.origin-numbered_in.result c.args.version) (sym updates) in
+    let here = goal.at.returns t c in
+    let at = node_here here.After-bytes-2 in
+    let there = kept_here here.After-find_kept in
     let some : Node → Option Node = λ n. Some n in
     let kept : UpdateEntry = c.in-Some-find_kept.kept.now in
     let pages : c.kept.inside.pages.items ≡ kept.pages = ap (λ (k : UpdateEntry). k.pages) c.kept.view_is in

@@ -22,18 +22,16 @@ use Rattle.blob_core.proofs.Taken.{blob_some}
 use Rattle.blob_model.proofs.Stays.{item_of}
 use Rattle.blob_core.proofs.Onward.{on_err}
 use Rattle.blob_core.proofs.state.State.number.Goals as goal
+use Rattle.blob_core.proofs.state.State.number.Goals.{In-Some-blob}
+
+sound : (c : In-Some-blob) → IsSound c.args.p c.args.self.now c.args.blob c.in-Some-blob.stored.now
+sound c = (c.steps_hold.ensures.stays c.args.p c.args.self.now c.requires).blobs c.args.blob c.in-Some-blob.stored.now c.in-Some-blob.ensures
 
 pub touches_of-requires-clause-replay : goal.touches_of-requires-clause-replay
-touches_of-requires-clause-replay c =
-    let b : Blob = c.in-Some-blob.stored.now in
-    let s : IsSound c.args.p c.args.self.now c.args.blob b = (c.steps_hold.ensures.stays c.args.p c.args.self.now c.requires).blobs c.args.blob b c.in-Some-blob.ensures in
-    s.replay
+touches_of-requires-clause-replay c = (sound (goal.at.touches_of-requires-clause-replay c).In-Some-blob).replay
 
 pub touches_of-requires-clause-fits : goal.touches_of-requires-clause-fits
-touches_of-requires-clause-fits c =
-    let b : Blob = c.in-Some-blob.stored.now in
-    let s : IsSound c.args.p c.args.self.now c.args.blob b = (c.steps_hold.ensures.stays c.args.p c.args.self.now c.requires).blobs c.args.blob b c.in-Some-blob.ensures in
-    s.fits
+touches_of-requires-clause-fits c = (sound (goal.at.touches_of-requires-clause-fits c).In-Some-blob).fits
 
 pub size_at-size-requires : goal.size_at-size-requires
 size_at-size-requires c = omega (arith, c.len.ensures, ap length c.as_slice-3.ensures.value)
@@ -48,24 +46,17 @@ refuses_update-requires-clause-size c =
 
 pub refuses_update-requires-clause-fits : goal.refuses_update-requires-clause-fits
 refuses_update-requires-clause-fits c =
-    let b : Blob = c.in-Some-blob.stored.now in
-    let s : IsSound c.args.p c.args.self.now c.args.blob b = (c.steps_hold.ensures.stays c.args.p c.args.self.now c.requires).blobs c.args.blob b c.in-Some-blob.ensures in
-    omega (arith, refuses_update-requires-clause-size c, s.fits (assigned b) (omega arith))
+    let s = sound (goal.at.refuses_update-requires-clause-fits c).In-Some-blob in
+    omega (arith, refuses_update-requires-clause-size c, s.fits (assigned c.in-Some-blob.stored.now) (omega arith))
 
 pub kept_beside-requires-clause-front : goal.kept_beside-requires-clause-front
-kept_beside-requires-clause-front c =
-    let b : Blob = c.in-Some-blob.stored.now in
-    let s : IsSound c.args.p c.args.self.now c.args.blob b = (c.steps_hold.ensures.stays c.args.p c.args.self.now c.requires).blobs c.args.blob b c.in-Some-blob.ensures in
-    omega (arith, s.front, c.in_ok-log.ensures.count, ap length c.as_slice-4.ensures.value)
+kept_beside-requires-clause-front c = omega (arith, (sound (goal.at.kept_beside-requires-clause-front c).In-Some-blob).front, c.in_ok-log.ensures.count, ap length c.as_slice-4.ensures.value)
 
 pub kept_beside-requires-clause-log : goal.kept_beside-requires-clause-log
 kept_beside-requires-clause-log c = omega (arith, c.in_ok-log.ensures.count, ap length c.as_slice-4.ensures.value)
 
 pub overflow_add-key : goal.overflow_add-key
-overflow_add-key c =
-    let b : Blob = c.in-Some-blob.stored.now in
-    let s : IsSound c.args.p c.args.self.now c.args.blob b = (c.steps_hold.ensures.stays c.args.p c.args.self.now c.requires).blobs c.args.blob b c.in-Some-blob.ensures in
-    omega (arith, c.len-2.ensures, c.in_ok-log.ensures.count, s.few)
+overflow_add-key c = omega (arith, c.len-2.ensures, c.in_ok-log.ensures.count, (sound (goal.at.overflow_add-key c).In-Some-blob).few)
 
 pub overflow_sub-blob : goal.overflow_sub-blob
 overflow_sub-blob c = (blob_some c.args.self.now.store c.args.blob c.in-Some-blob.stored.now c.in-Some-blob.ensures).0

@@ -17,58 +17,49 @@ use Rattle.blob_core.specs.Standing.{IsSound}
 use Rattle.blob_core.proofs.Growing.{size_in_log}
 use Rattle.blob_core.proofs.Walking.{read_within, walked_some, walked_cut}
 use Rattle.blob_core.proofs.state.State.read.Goals as goal
+use Rattle.blob_core.proofs.state.State.read.Goals.{In-Some, After-size_at}
+
+sound : (c : In-Some) → IsSound c.args.p c.args.self.now c.args.blob c.in-Some.stored.now
+sound c = (c.steps_hold.ensures.stays c.args.p c.args.self.now c.requires).blobs c.args.blob c.in-Some.stored.now c.in-Some.ensures
+
+taken : (c : In-Some) → is_refused (answer c.args.self.now.store 0 (Calls.Read c.args.blob c.args.version c.args.offset c.args.length)).1 ≡ false
+taken c = sym c.in_ok-refuses_read.ensures ∙ c.if-branch.false
+
+-- what is read lies in a version that was numbered
+within : (c : In-Some) → (c.args.version ≤ assigned c.in-Some.stored.now) × (c.args.offset + c.args.length ≤ size_of c.in-Some.stored.now.updates c.args.version)
+within c =
+    let inside = read_within c.args.self.now.store c.args.blob c.args.version c.args.offset c.args.length c.in-Some.stored.now c.in-Some.ensures (taken c) in
+    (omega (arith, inside.0, (sound c).front), inside.1)
+
+size_is : (c : After-size_at) → c.args.version ≤ assigned c.in-Some.stored.now → c.size_at.result ≡ size_of c.in-Some.stored.now.updates c.args.version
+size_is c upto = c.size_at.ensures ∙ ap (λ (l : List Touch). size_at l c.args.version) c.as_slice.ensures.value ∙ c.in_ok-log.ensures.sizes c.args.version upto
 
 pub touches_of-requires-clause-replay : goal.touches_of-requires-clause-replay
-touches_of-requires-clause-replay c =
-    let b : Blob = c.in-Some.stored.now in
-    let s : IsSound c.args.p c.args.self.now c.args.blob b = (c.steps_hold.ensures.stays c.args.p c.args.self.now c.requires).blobs c.args.blob b c.in-Some.ensures in
-    s.replay
+touches_of-requires-clause-replay c = (sound (goal.at.touches_of-requires-clause-replay c).In-Some).replay
 
 pub touches_of-requires-clause-fits : goal.touches_of-requires-clause-fits
-touches_of-requires-clause-fits c =
-    let b : Blob = c.in-Some.stored.now in
-    let s : IsSound c.args.p c.args.self.now c.args.blob b = (c.steps_hold.ensures.stays c.args.p c.args.self.now c.requires).blobs c.args.blob b c.in-Some.ensures in
-    s.fits
+touches_of-requires-clause-fits c = (sound (goal.at.touches_of-requires-clause-fits c).In-Some).fits
 
 pub size_at-requires : goal.size_at-requires
-size_at-requires c =
-    let b : Blob = c.in-Some.stored.now in
-    let s : IsSound c.args.p c.args.self.now c.args.blob b = (c.steps_hold.ensures.stays c.args.p c.args.self.now c.requires).blobs c.args.blob b c.in-Some.ensures in
-    let taken : is_refused (answer c.args.self.now.store 0 (Calls.Read c.args.blob c.args.version c.args.offset c.args.length)).1 ≡ false = sym c.in_ok-refuses_read.ensures ∙ c.if-branch.false in
-    let within = read_within c.args.self.now.store c.args.blob c.args.version c.args.offset c.args.length b c.in-Some.ensures taken in
-    let upto : c.args.version ≤ assigned b = omega (arith, within.0, s.front) in
-    omega (arith, upto, c.in_ok-log.ensures.count, ap length c.as_slice.ensures.value)
+size_at-requires c = omega (arith, (within (goal.at.size_at-requires c).In-Some).0, c.in_ok-log.ensures.count, ap length c.as_slice.ensures.value)
 
 pub height-levels-requires-clause-some : goal.height-levels-requires-clause-some
 height-levels-requires-clause-some c =
-    let b : Blob = c.in-Some.stored.now in
-    let s : IsSound c.args.p c.args.self.now c.args.blob b = (c.steps_hold.ensures.stays c.args.p c.args.self.now c.requires).blobs c.args.blob b c.in-Some.ensures in
-    let taken : is_refused (answer c.args.self.now.store 0 (Calls.Read c.args.blob c.args.version c.args.offset c.args.length)).1 ≡ false = sym c.in_ok-refuses_read.ensures ∙ c.if-branch.false in
-    let within = read_within c.args.self.now.store c.args.blob c.args.version c.args.offset c.args.length b c.in-Some.ensures taken in
-    let upto : c.args.version ≤ assigned b = omega (arith, within.0, s.front) in
-    let size : c.size_at.result ≡ size_of b.updates c.args.version =
-    c.size_at.ensures ∙ ap (λ (l : List Touch). size_at l c.args.version) c.as_slice.ensures.value ∙ c.in_ok-log.ensures.sizes c.args.version upto in
-    omega (arith, size, within.1, c.if-length-eq0.false)
+    let here = goal.at.height-levels-requires-clause-some c in
+    let inside = within here.In-Some in
+    omega (arith, size_is here.After-size_at inside.0, inside.1, c.if-length-eq0.false)
 
 pub height-levels-requires-clause-fits : goal.height-levels-requires-clause-fits
 height-levels-requires-clause-fits c =
-    let b : Blob = c.in-Some.stored.now in
-    let s : IsSound c.args.p c.args.self.now c.args.blob b = (c.steps_hold.ensures.stays c.args.p c.args.self.now c.requires).blobs c.args.blob b c.in-Some.ensures in
-    let taken : is_refused (answer c.args.self.now.store 0 (Calls.Read c.args.blob c.args.version c.args.offset c.args.length)).1 ≡ false = sym c.in_ok-refuses_read.ensures ∙ c.if-branch.false in
-    let within = read_within c.args.self.now.store c.args.blob c.args.version c.args.offset c.args.length b c.in-Some.ensures taken in
-    let upto : c.args.version ≤ assigned b = omega (arith, within.0, s.front) in
-    let size : c.size_at.result ≡ size_of b.updates c.args.version =
-    c.size_at.ensures ∙ ap (λ (l : List Touch). size_at l c.args.version) c.as_slice.ensures.value ∙ c.in_ok-log.ensures.sizes c.args.version upto in
-    omega (arith, size, s.fits c.args.version upto)
+    let here = goal.at.height-levels-requires-clause-fits c in
+    let upto = (within here.In-Some).0 in
+    omega (arith, size_is here.After-size_at upto, (sound here.In-Some).fits c.args.version upto)
 
 pub overflow_add-last : goal.overflow_add-last
 overflow_add-last c =
-    let b : Blob = c.in-Some.stored.now in
-    let s : IsSound c.args.p c.args.self.now c.args.blob b = (c.steps_hold.ensures.stays c.args.p c.args.self.now c.requires).blobs c.args.blob b c.in-Some.ensures in
-    let taken : is_refused (answer c.args.self.now.store 0 (Calls.Read c.args.blob c.args.version c.args.offset c.args.length)).1 ≡ false = sym c.in_ok-refuses_read.ensures ∙ c.if-branch.false in
-    let within = read_within c.args.self.now.store c.args.blob c.args.version c.args.offset c.args.length b c.in-Some.ensures taken in
-    let upto : c.args.version ≤ assigned b = omega (arith, within.0, s.front) in
-    omega (arith, within.1, s.fits c.args.version upto)
+    let here = (goal.at.overflow_add-last c).In-Some in
+    let inside = within here in
+    omega (arith, inside.1, (sound here).fits c.args.version inside.0)
 
 pub nonzero_div-first : goal.nonzero_div-first
 nonzero_div-first c = omega (arith, c.bytes.ensures.bounds.0)
@@ -102,11 +93,9 @@ add_tree-requires-clause-fits c =
 
 pub returns : goal.returns
 returns c =
+    let here = (goal.at.returns c).In-Some in
     let b : Blob = c.in-Some.stored.now in
-    let s : IsSound c.args.p c.args.self.now c.args.blob b = (c.steps_hold.ensures.stays c.args.p c.args.self.now c.requires).blobs c.args.blob b c.in-Some.ensures in
-    let taken : is_refused (answer c.args.self.now.store 0 (Calls.Read c.args.blob c.args.version c.args.offset c.args.length)).1 ≡ false = sym c.in_ok-refuses_read.ensures ∙ c.if-branch.false in
-    let within = read_within c.args.self.now.store c.args.blob c.args.version c.args.offset c.args.length b c.in-Some.ensures taken in
-    let upto : c.args.version ≤ assigned b = omega (arith, within.0, s.front) in
+    let upto = (within here).0 in
     let w : World = c.args.self.now in
     let p : ℕ = c.args.p in
     let W : ℕ → ℕ → ℕ → List ℕ = λ h f l. (tree_walk_from h p w c.args.blob c.args.version 0 f l).bytes in
@@ -133,4 +122,4 @@ returns c =
     ∙ ap (λ (n : ℕ). take c.args.length (drop n (W H (c.args.offset / p) ((c.args.offset + c.args.length - 1) / p)))) skipped in
     let some : List ℕ → Option (List ℕ) = λ l. Some l in
     ap some (c.of-2.ensures ∙ bytes ∙ sym (walked_cut p w c.args.blob c.args.version c.args.offset c.args.length b (omega arith)))
-    ∙ sym (walked_some p w c.args.blob c.args.version c.args.offset c.args.length b c.in-Some.ensures taken)
+    ∙ sym (walked_some p w c.args.blob c.args.version c.args.offset c.args.length b c.in-Some.ensures (taken here))

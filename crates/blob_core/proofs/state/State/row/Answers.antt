@@ -11,46 +11,45 @@ use Rattle.branching.specs.Parents.{origin_of}
 use Rattle.blob_core.specs.World.{World, origin}
 use Rattle.blob_core.specs.Standing.{IsSound}
 use Rattle.blob_core.proofs.state.State.row.Goals as goal
+use Rattle.blob_core.proofs.state.State.row.Goals.{In-Some, Else-own-blob}
+
+sound : (c : In-Some) → IsSound c.args.p c.args.self.now c.args.blob c.in-Some.stored.now
+sound c = (c.steps_hold.ensures.stays c.args.p c.args.self.now c.requires).blobs c.args.blob c.in-Some.stored.now c.in-Some.ensures
+
+upto : (c : Else-own-blob) → c.args.version ≤ assigned c.in-Some.stored.now
+upto c = omega (arith, c.len-assigned.ensures, c.if-assigned-version.false, ap (λ (x : Blob). assigned x) c.stored.view_is, c.stored.inside.updates.ok.0)
 
 pub touches_of-requires-clause-replay : goal.touches_of-requires-clause-replay
-touches_of-requires-clause-replay c =
-    let b : Blob = c.in-Some.stored.now in
-    let s : IsSound c.args.p c.args.self.now c.args.blob b = (c.steps_hold.ensures.stays c.args.p c.args.self.now c.requires).blobs c.args.blob b c.in-Some.ensures in
-    s.replay
+touches_of-requires-clause-replay c = (sound (goal.at.touches_of-requires-clause-replay c).In-Some).replay
 
 pub touches_of-requires-clause-fits : goal.touches_of-requires-clause-fits
-touches_of-requires-clause-fits c =
-    let b : Blob = c.in-Some.stored.now in
-    let s : IsSound c.args.p c.args.self.now c.args.blob b = (c.steps_hold.ensures.stays c.args.p c.args.self.now c.requires).blobs c.args.blob b c.in-Some.ensures in
-    s.fits
+touches_of-requires-clause-fits c = (sound (goal.at.touches_of-requires-clause-fits c).In-Some).fits
 
 pub row_keys-requires-clause-of_updates : goal.row_keys-requires-clause-of_updates
 row_keys-requires-clause-of_updates c =
-    let b : Blob = c.in-Some.stored.now in
-    let s : IsSound c.args.p c.args.self.now c.args.blob b = (c.steps_hold.ensures.stays c.args.p c.args.self.now c.requires).blobs c.args.blob b c.in-Some.ensures in
-    (extents b.updates, (c.page_bytes_stay.ensures.extents b.updates s.replay).0, c.as_slice-2.ensures.value ∙ c.in_ok-log.ensures.log)
+    let us = c.in-Some.stored.now.updates in
+    (extents us, (c.page_bytes_stay.ensures.extents us (sound (goal.at.row_keys-requires-clause-of_updates c).In-Some).replay).0, c.as_slice-2.ensures.value ∙ c.in_ok-log.ensures.log)
 
 pub row_keys-requires-clause-fits : goal.row_keys-requires-clause-fits
 row_keys-requires-clause-fits c =
-    let b : Blob = c.in-Some.stored.now in
-    let s : IsSound c.args.p c.args.self.now c.args.blob b = (c.steps_hold.ensures.stays c.args.p c.args.self.now c.requires).blobs c.args.blob b c.in-Some.ensures in
-    let upto : c.args.version ≤ assigned b = omega (arith, c.len-assigned.ensures, c.if-assigned-version.false, ap (λ (x : Blob). assigned x) c.stored.view_is, c.stored.inside.updates.ok.0) in
-    let size : size_at c.as_slice-2.result.now c.args.version ≡ size_of b.updates c.args.version =
-    ap (λ (l : List Touch). size_at l c.args.version) c.as_slice-2.ensures.value ∙ c.in_ok-log.ensures.sizes c.args.version upto in
-    omega (arith, size, s.fits c.args.version upto)
+    let here = goal.at.row_keys-requires-clause-fits c in
+    let le = upto here.Else-own-blob in
+    let size : size_at c.as_slice-2.result.now c.args.version ≡ size_of c.in-Some.stored.now.updates c.args.version =
+    ap (λ (l : List Touch). size_at l c.args.version) c.as_slice-2.ensures.value ∙ c.in_ok-log.ensures.sizes c.args.version le in
+    omega (arith, size, (sound here.In-Some).fits c.args.version le)
 
 pub returns : goal.returns
 returns c =
     let w : World = c.args.self.now in
     let b : Blob = c.in-Some.stored.now in
-    let s : IsSound c.args.p w c.args.blob b = (c.steps_hold.ensures.stays c.args.p w c.requires).blobs c.args.blob b c.in-Some.ensures in
-    let upto : c.args.version ≤ assigned b = omega (arith, c.len-assigned.ensures, c.if-assigned-version.false, ap (λ (x : Blob). assigned x) c.stored.view_is, c.stored.inside.updates.ok.0) in
+    let here = goal.at.returns c in
+    let s = sound here.In-Some in
     let numbered_in : c.origin-own.result ≡ origin w c.args.blob c.args.version =
     c.origin-own.ensures ∙ ap (λ (l : List (Option Parent)). origin_of l c.args.blob c.args.version) (c.as_slice.ensures.value ∙ ap (λ (x : World). x.lineage) c.self.view_is) in
     let own : c.origin-own.result ≡ c.args.blob = omega (arith, c.if-own-blob.false) in
     record {
       b = b;
-      own = record { there = c.in-Some.ensures; some = omega (arith, c.if-version-eq0.false); upto = upto; own = sym numbered_in ∙ own };
+      own = record { there = c.in-Some.ensures; some = omega (arith, c.if-version-eq0.false); upto = upto here.Else-own-blob; own = sym numbered_in ∙ own };
       touches = record { replay = s.replay; few = s.few; fits = s.fits; is = c.in_ok-log.ensures.log };
       ranges = c.in_ok-keys.ensures ∙ ap (λ (l : List Touch). row_keys_of c.args.p l c.args.version) (c.as_slice-2.ensures.value ∙ c.in_ok-log.ensures.log);
     }
