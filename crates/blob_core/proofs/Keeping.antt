@@ -102,6 +102,15 @@ pub record Wider (a b : World) : Type 0 where
   pub nodes : (key : NodeKey) (n : Node) → node_at a.nodes key ≡ Some n → node_at b.nodes key ≡ Some n
   pub folded : (blob version page : ℕ) (bytes : List ℕ) → fold_at a.folded blob version page ≡ Some bytes → fold_at b.folded blob version page ≡ Some bytes
 
+-- a change of the store, or of the lineage, leaves what is kept, the pages and the nodes alone
+wider_same : (w : World) (t : Store) (parents : List (Option Parent)) → Wider w (record w { store = t; lineage = parents })
+wider_same w t parents = record {
+  pages = λ n b is. is;
+  updates = λ blob version kept is. is;
+  nodes = λ key n is. is;
+  folded = λ blob version page bytes is. is;
+}
+
 -- each blob is there, and what it was is a beginning of what it is
 abbrev pub Forward : ℕ → World → World → Type 0
 Forward p a b = (blob : ℕ) (old : Blob) → blob_at a.store blob ≡ Some old
@@ -181,24 +190,16 @@ blob_kept p a b blob x wide same s = record {
 }
 
 -- ---- a page
-wider_page : (p : ℕ) (w v : World) (page : ℕ) (bytes : List ℕ) → page_at w.pages page ≡ None → v.pages ≡ (page, bytes) ∷ w.pages → v.updates ≡ w.updates → v.nodes ≡ w.nodes → v.folded ≡ w.folded → Wider w v
-wider_page p w v page bytes none e f g h =
-    let Q : List (ℕ × List ℕ) → Type 0 = λ l. KeepsPages w.pages l in
-    let U : List (UpdateKey × UpdateEntry) → Type 0 = λ l. (blob version : ℕ) (kept : UpdateEntry) → kept_at w.updates blob version ≡ Some kept → kept_at l blob version ≡ Some kept in
-    let N : List (NodeKey × Node) → Type 0 = λ l. (key : NodeKey) (n : Node) → node_at w.nodes key ≡ Some n → node_at l key ≡ Some n in
-    record {
-      pages = subst Q (sym e) (λ n b is. entry_kept same_number w.pages page bytes n b (number_means page n) none is);
-      updates = subst U (sym f) (λ blob version kept is. is);
-      nodes = subst N (sym g) (λ key n is. is);
-      folded = (let F : List (FoldKey × List ℕ) → Type 0 = λ l. (blob version page : ℕ) (bytes : List ℕ) → fold_at w.folded blob version page ≡ Some bytes → fold_at l blob version page ≡ Some bytes in
-          subst F (sym h) (λ blob version page bytes is. is));
-    }
-
 pub page_put : (p : ℕ) (w : World) (page : ℕ) (bytes : List ℕ) → Stands p w → page_at w.pages page ≡ None → 1 ≤ length bytes → length bytes ≤ p
     → Stands p (record w { pages = (page, bytes) ∷ w.pages })
 page_put p w page bytes s none some small =
     let v : World = record w { pages = (page, bytes) ∷ w.pages } in
-    let wide : Wider w v = wider_page p w v page bytes none refl refl refl refl in
+    let wide : Wider w v = record {
+      pages = λ n b is. entry_kept same_number w.pages page bytes n b (number_means page n) none is;
+      updates = λ blob version kept is. is;
+      nodes = λ key n is. is;
+      folded = λ blob version fold b is. is;
+    } in
     let on : Forward p w v = forward_same p w v (λ blob old e. e) in
     let P : List ℕ → Type 0 = λ l. (1 ≤ length l) × (length l ≤ p) in
     record {
@@ -322,16 +323,17 @@ node_put c p w key b pos s numbered has folded =
     ]
 
 -- ---- a change of one blob
-pub blob_set : (p : ℕ) (w v : World) (blob : ℕ) (before new : Blob) → Stands p w → Wider w v → v.lineage ≡ w.lineage → v.pages ≡ w.pages → v.nodes ≡ w.nodes → v.folded ≡ w.folded
-    → blob_at w.store blob ≡ Some before → v.store ≡ with_blob w.store blob new → Agrees p before.updates new.updates (assigned before) → assigned before ≤ assigned new
-    → ((id version : ℕ) (kept : UpdateEntry) → kept_at v.updates id version ≡ Some kept → IsOfBlob v id version ⊎ (kept_at w.updates id version ≡ Some kept))
-    → BlobStands p v blob new → Stands p v
-blob_set p w v blob before new s wide lin pages nodes folded is store agrees more known stands =
-    let B : Store → ℕ → Blob → Type 0 = λ t id b. blob_at t id ≡ Some b in
+pub blob_set : (p : ℕ) (w : World) (t : Store) (updates : List (UpdateKey × UpdateEntry)) (blob : ℕ) (before new : Blob) → Stands p w → Wider w (record w { store = t; updates = updates })
+    → blob_at w.store blob ≡ Some before → t ≡ with_blob w.store blob new → Agrees p before.updates new.updates (assigned before) → assigned before ≤ assigned new
+    → ((id version : ℕ) (kept : UpdateEntry) → kept_at updates id version ≡ Some kept → IsOfBlob (record w { store = t; updates = updates }) id version ⊎ (kept_at w.updates id version ≡ Some kept))
+    → BlobStands p (record w { store = t; updates = updates }) blob new → Stands p (record w { store = t; updates = updates })
+blob_set p w t updates blob before new s wide is store agrees more known stands =
+    let v : World = record w { store = t; updates = updates } in
+    let B : Store → ℕ → Blob → Type 0 = λ x id b. blob_at x id ≡ Some b in
     let out : (id : ℕ) (b : Blob) → blob_at v.store id ≡ Some b → blob_at (with_blob w.store blob new) id ≡ Some b = λ id b e.
-    (let P : Store → Type 0 = λ t. B t id b in subst P store e) in
+    (let P : Store → Type 0 = λ x. B x id b in subst P store e) in
     let back : (id : ℕ) (b : Blob) → blob_at (with_blob w.store blob new) id ≡ Some b → blob_at v.store id ≡ Some b = λ id b e.
-    (let P : Store → Type 0 = λ t. B t id b in subst P (sym store) e) in
+    (let P : Store → Type 0 = λ x. B x id b in subst P (sym store) e) in
     let on : Forward p w v = λ id old e.
     elim (with_on w.store blob before new is id old e) [
       | inl same ↦
@@ -343,13 +345,10 @@ blob_set p w v blob before new s wide lin pages nodes folded is store agrees mor
           (new, subst J (sym same) (back blob new (with_new w.store blob before new is)), subst E eq agrees, subst L eq more))
       | inr other ↦ (old, back id old other, agree_same p old.updates (assigned old), omega arith)
     ] in
-    let O : (id j : ℕ) → origin v id j ≡ origin w id j = λ id j. ap (λ (l : List (Option Parent)). origin_of l id j) lin in
-    let P : List (ℕ × List ℕ) → Type 0 = λ l. SmallPages p l in
-    let N : List (NodeKey × Node) → Type 0 = λ l. (key : NodeKey) (n : Node) → node_at l key ≡ Some n → IsRowNode p v key n in
-    let count : length v.store.blobs ≡ length w.store.blobs = ap (λ (t : Store). length t.blobs) store ∙ length-set w.store.blobs (blob - 1) new in
+    let count : length v.store.blobs ≡ length w.store.blobs = ap (λ (x : Store). length x.blobs) store ∙ length-set w.store.blobs (blob - 1) new in
     record {
-      lineage = ap (λ (l : List (Option Parent)). length l) lin ∙ s.lineage ∙ sym count;
-      pages = subst P (sym pages) s.pages;
+      lineage = s.lineage ∙ sym count;
+      pages = s.pages;
       known = λ id version kept e. elim (known id version kept e) [ inl here ↦ here | inr old ↦ of_blob_moved p w v id version on (s.known id version kept old) ];
       blobs = λ id b e.
           elim (with_was w.store blob before new is id b (out id b e)) [
@@ -357,26 +356,11 @@ blob_set p w v blob before new s wide lin pages nodes folded is store agrees mor
                 (let S : ℕ → Type 0 = λ i. BlobStands p v i new in
                 let T : Blob → Type 0 = λ x. BlobStands p v id x in
                 subst T here.1 (subst S (sym here.0) stands))
-            | inr old ↦ blob_kept p w v id b wide (λ j. O id j) (s.blobs id b old)
+            | inr old ↦ blob_kept p w v id b wide (λ j. refl) (s.blobs id b old)
           ];
-      nodes = subst N (sym nodes) (λ key n e. row_moved p w v key n on (s.nodes key n e));
-      folds = (let F : List (FoldKey × List ℕ) → Type 0 = λ l. (id version page : ℕ) (bytes : List ℕ) → fold_at l id version page ≡ Some bytes → IsFoldPage p v id version page bytes in
-          subst F (sym folded) (λ id version page bytes e. fold_moved p w v id version page bytes on (s.folds id version page bytes e)));
-      anew = (let T : List (NodeKey × Node) → Type 0 = λ l. (key : NodeKey) (n : Node) → node_at l key ≡ Some n → FoldIsThere p v key in
-          subst T (sym nodes) (λ key n e. there_moved p w v key n on wide (s.nodes key n e) (s.anew key n e)));
-    }
-
-wider_same : (w v : World) → v.pages ≡ w.pages → v.updates ≡ w.updates → v.nodes ≡ w.nodes → v.folded ≡ w.folded → Wider w v
-wider_same w v e f g h =
-    let Q : List (ℕ × List ℕ) → Type 0 = λ l. KeepsPages w.pages l in
-    let U : List (UpdateKey × UpdateEntry) → Type 0 = λ l. (blob version : ℕ) (kept : UpdateEntry) → kept_at w.updates blob version ≡ Some kept → kept_at l blob version ≡ Some kept in
-    let N : List (NodeKey × Node) → Type 0 = λ l. (key : NodeKey) (n : Node) → node_at w.nodes key ≡ Some n → node_at l key ≡ Some n in
-    record {
-      pages = subst Q (sym e) (λ n b is. is);
-      updates = subst U (sym f) (λ blob version kept is. is);
-      nodes = subst N (sym g) (λ key n is. is);
-      folded = (let F : List (FoldKey × List ℕ) → Type 0 = λ l. (blob version page : ℕ) (bytes : List ℕ) → fold_at w.folded blob version page ≡ Some bytes → fold_at l blob version page ≡ Some bytes in
-          subst F (sym h) (λ blob version page bytes is. is));
+      nodes = λ key n e. row_moved p w v key n on (s.nodes key n e);
+      folds = λ id version page bytes e. fold_moved p w v id version page bytes on (s.folds id version page bytes e);
+      anew = λ key n e. there_moved p w v key n on wide (s.nodes key n e) (s.anew key n e);
     }
 
 -- ---- a finish
@@ -386,7 +370,7 @@ pub finished : (c : Cited) (p : ℕ) (w : World) (t : Store) (blob version : ℕ
 finished c p w t blob version b pos s numbered row store =
     let v : World = record w { store = t } in
     let old : BlobStands p w blob b = s.blobs blob b numbered.there in
-    let wide : Wider w v = wider_same w v refl refl refl refl in
+    let wide : Wider w v = wider_same w t w.lineage in
     let ok : InBounds (extents b.updates) = in_bounds c b.updates old.replay in
     let grown : published b ≤ published (finish b version) = true_prefix-set b.finished (version - 1) in
     let here : (r : Range) → HasNode p (log_of p b.updates) version r → node_in v blob version r ≡ Some (node_of p (extents b.updates) version r) = λ r has.
@@ -408,7 +392,7 @@ finished c p w t blob version b pos s numbered row store =
     let some : List ℕ → Option (List ℕ) = λ l. Some l in
     let At : ℕ → Type 0 = λ o. fold_at w.folded o version i ≡ Some (page_bytes p b.updates version i) in
     subst At (sym numbered.own) (e ∙ ap some (x.is ∙ ap (λ (y : Blob). page_bytes p y.updates version i) same))) in
-    blob_set p w v blob b (finish b version) s wide refl refl refl refl numbered.there store (agree_same p b.updates (assigned b)) (omega arith) (λ id ver kept e. inr e)
+    blob_set p w t w.updates blob b (finish b version) s wide numbered.there store (agree_same p b.updates (assigned b)) (omega arith) (λ id ver kept e. inr e)
     (record {
       replay = old.replay;
       marks = length-set b.finished (version - 1) true ∙ old.marks;
@@ -500,7 +484,7 @@ numbered c p w t blob b u pages s is cut bytes some fits store =
     })) in
     let W : List (UpdateKey × UpdateEntry) → Type 0 = λ l. Stands p (record w { store = t; updates = l }) in
     subst W (sym (with_update_is p w blob pages b is))
-    (blob_set p w v blob b new s wide refl refl refl refl is store agrees (omega arith)
+    (blob_set p w t updates blob b new s wide is store agrees (omega arith)
     (λ id version k e.
     elim (entry_old same_update w.updates key kept (record { blob = id; version = version }) k (update_means key (record { blob = id; version = version })) e) [
       | inl eq ↦
@@ -538,7 +522,7 @@ pub blob_added : (p : ℕ) (w : World) (t : Store) (parent : Option Parent) (new
     → Stands p (record w { store = t; lineage = parent ∷ w.lineage })
 blob_added p w t parent new s store stands =
     let v : World = record w { store = t; lineage = parent ∷ w.lineage } in
-    let wide : Wider w v = wider_same w v refl refl refl refl in
+    let wide : Wider w v = wider_same w t (parent ∷ w.lineage) in
     let out : (id : ℕ) (b : Blob) → blob_at t id ≡ Some b → blob_at (and_blob w.store new) id ≡ Some b = λ id b e. (let P : Store → Type 0 = λ x. blob_at x id ≡ Some b in subst P store e) in
     let back : (id : ℕ) (b : Blob) → blob_at (and_blob w.store new) id ≡ Some b → blob_at t id ≡ Some b = λ id b e. (let P : Store → Type 0 = λ x. blob_at x id ≡ Some b in subst P (sym store) e) in
     let on : Forward p w v = forward_same p w v (λ id old e. back id old (more_kept w.store new id old e)) in
@@ -580,7 +564,7 @@ pub branched : (c : Cited) (p : ℕ) (w : World) (t : Store) (blob version : ℕ
 branched c p w t blob version b s is le store =
     let q : Parent = record { blob = blob; version = version } in
     let v : World = record w { store = t; lineage = Some q ∷ w.lineage } in
-    let wide : Wider w v = wider_same w v refl refl refl refl in
+    let wide : Wider w v = wider_same w t (Some q ∷ w.lineage) in
     let old : BlobStands p w blob b = s.blobs blob b is in
     let within : version ≤ length b.updates = omega (arith, published_within p w blob b old) in
     let new : Blob = branch_of b version in
