@@ -16,7 +16,6 @@ use Rattle.range_log.specs.Rows.{folded_of, node_of}
 use Rattle.range_log.specs.Extents.{InBounds}
 use Rattle.range_log.specs.Updates.{update_at, extents, page_bytes, Replayable}
 use Rattle.blob_core.specs.World.{World, IsKnown, empty_world, UpdateEntry, fold_at, same_number, same_update, same_fold, same_key, page_at, node_at, kept_at, origin, key_in, node_in, bytes_of_pages, AreCut, log_of, waiting_after}
-use Rattle.branching.specs.Parents.{origin_of}
 use Rattle.branching.specs.declared.Parent.{Parent}
 use Rattle.blob_core.specs.declared.world.FoldKey.{FoldKey}
 use Rattle.blob_core.specs.declared.world.UpdateKey.{UpdateKey}

@@ -1,4 +1,4 @@
-use Rattle.std.proofs.Common.{◌≤◌, ◌^◌, ◌+◌, arith, sym, ◌∙◌}
+use Rattle.std.proofs.Common.{arith, sym, ◌∙◌}
 use Rattle.std.specs.Prelude.{true, false}
 use Rattle.tree_geom.specs.Geometry.{page_range}
 use Rattle.blob_core.proofs.Rowing.{VersionStands, version_stands, first_fits, place_first, place_other}

@@ -40,7 +40,8 @@ bounds c =
 
 -- and has some bytes, and no more than the page
 part_fits : (c : After-min-high) → (1 ≤ leaf_len c.args.p (extent_at (extents c.args.blob.now.updates) c.args.version) c.args.page)
-    × (leaf_start c.args.p (extent_at (extents c.args.blob.now.updates) c.args.version) c.args.page + leaf_len c.args.p (extent_at (extents c.args.blob.now.updates) c.args.version) c.args.page ≤ c.args.p)
+    × (leaf_start c.args.p (extent_at (extents c.args.blob.now.updates) c.args.version) c.args.page
+    + leaf_len c.args.p (extent_at (extents c.args.blob.now.updates) c.args.version) c.args.page ≤ c.args.p)
 part_fits c =
     let pos : 1 ≤ c.args.p = omega (arith, c.bytes.ensures.bounds.0, c.bytes.ensures.is) in
     let stand = (c.page_bytes_stay.ensures.extents c.args.blob.now.updates c.requires.log.replay).0 in

@@ -15,7 +15,8 @@ sound c = (c.steps_hold.ensures.stays c.args.p c.args.self.now c.requires).blobs
 -- the version is published
 upto : (c : Else-marked-version) → c.args.version ≤ published c.in-Some.stored.now
 upto c =
-    let front : published c.in-Some.stored.now ≡ c.marked.result = ap (λ (x : Blob). true_prefix x.finished) (sym c.stored.view_is) ∙ ap true_prefix (sym c.as_slice.ensures.value) ∙ sym c.marked.ensures.is in
+    let front : published c.in-Some.stored.now ≡ c.marked.result =
+    ap (λ (x : Blob). true_prefix x.finished) (sym c.stored.view_is) ∙ ap true_prefix (sym c.as_slice.ensures.value) ∙ sym c.marked.ensures.is in
     omega (arith, front, c.if-marked-version.false)
 
 pub touches_of-requires-clause-replay : goal.touches_of-requires-clause-replay
