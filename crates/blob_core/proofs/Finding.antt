@@ -35,7 +35,7 @@ use Rattle.range_log.proofs.Walk.{double}
 use Rattle.range_log.proofs.Growth.{folds-are}
 
 -- ---- ranges
-abbrev ranged : ℕ → ℕ → Range
+abbrev pub ranged : ℕ → ℕ → Range
 ranged o s = record { offset = o; size = s }
 
 pub size_pos : (p h : ℕ) → 1 ≤ p → p ≤ p * 2 ^ h

@@ -184,7 +184,7 @@ joined_kept p a b keeps (n ∷ (m ∷ ns)) cut =
     ap (λ (x : List ℕ). x ++ bytes_of_pages b (m ∷ ns)) (bytes_kept a b keeps n cut.0)
     ∙ ap (λ (y : List ℕ). bytes_of_page a n ++ y) (joined_kept p a b keeps (m ∷ ns) cut.2)
 
-page_small : (p : ℕ) (a : List (ℕ × List ℕ)) (n : ℕ) → SmallPages p a → IsKnown (page_at a n) → (1 ≤ length (bytes_of_page a n)) × (length (bytes_of_page a n) ≤ p)
+pub page_small : (p : ℕ) (a : List (ℕ × List ℕ)) (n : ℕ) → SmallPages p a → IsKnown (page_at a n) → (1 ≤ length (bytes_of_page a n)) × (length (bytes_of_page a n) ≤ p)
 page_small p a n small (bytes, e) = let f : length (bytes_of_page a n) ≡ length bytes = ap length (bytes_are a n bytes e) in (omega (arith, small n bytes e), omega (arith, small n bytes e))
 
 -- some pages have a byte

@@ -28,11 +28,11 @@ use Rattle.range_log.proofs.Links.{back_none, back_anew}
 use Rattle.range_log.specs.Visits.{backs_of, visits}
 use Rattle.range_log.specs.Walk.{nodes_visited, root_of}
 use Rattle.range_log.proofs.Bytes.{extent_is, length-extents}
-use Rattle.blob_core.specs.World.{World, UpdateEntry, IsKnown, AreCut, page_at, fold_at, nth_page, bytes_of_page, bytes_of_pages, node_in, kept_at, origin, log_of}
+use Rattle.blob_core.specs.World.{World, UpdateEntry, AreCut, fold_at, nth_page, bytes_of_page, bytes_of_pages, node_in, kept_at, origin, log_of}
 use Rattle.blob_core.specs.Walk.{Walked, nothing, both, over, stored_in, bytes_of_piece, page_walk, leaf_walk, tree_walk_from, cut_out, read_walk}
-use Rattle.blob_core.proofs.Lists.{nth_is, SmallPages, bytes_are}
+use Rattle.blob_core.proofs.Lists.{nth_is, SmallPages, page_small}
 use Rattle.blob_core.proofs.Growing.{Cited, length_log, size_in_log}
-use Rattle.blob_core.proofs.Finding.{size_pos, left_is, right_is, page_is, inner_is, test_same, test_some, test_none}
+use Rattle.blob_core.proofs.Finding.{ranged, size_pos, left_is, right_is, page_is, inner_is, test_same, test_some, test_none}
 use Rattle.range_log.proofs.Walk.{double}
 use Rattle.blob_core.proofs.Keeping.{Stands, BlobStands, UpdateStands, rows_known, in_bounds, published_finished, published_within}
 use Rattle.tree_geom.proofs.Spans.{height_enough}
@@ -102,18 +102,12 @@ extent_len us zero some = absurd (omega arith)
 extent_len us (suc k) some = refl
 
 -- ---- the pages that a buffer needs
-page_size_of : (p : ℕ) (stored : List (ℕ × List ℕ)) (page : ℕ) → SmallPages p stored → IsKnown (page_at stored page) → (1 ≤ length (bytes_of_page stored page)) × (length (bytes_of_page stored page) ≤ p)
-page_size_of p stored page small (v, e) =
-    let same : bytes_of_page stored page ≡ v = bytes_are stored page v e in
-    let f = small page v e in
-    (omega (arith, ap length same, f.0), omega (arith, ap length same, f.1))
-
 pages_below : (p : ℕ) (stored : List (ℕ × List ℕ)) (pages : List ℕ) → SmallPages p stored → AreCut p stored pages → (q : ℕ) → q * p < length (bytes_of_pages stored pages) → q < length pages
 pages_below p stored [] small cut q lt = absurd cut
 pages_below p stored (page ∷ []) small cut zero lt = omega arith
 pages_below p stored (page ∷ []) small cut (suc q) lt =
     let all : length (bytes_of_pages stored (page ∷ [])) ≡ length (bytes_of_page stored page) + 0 = length-append (bytes_of_page stored page) [] in
-    absurd (omega (arith, lt, all, (page_size_of p stored page small cut).1))
+    absurd (omega (arith, lt, all, (page_small p stored page small cut).1))
 pages_below p stored (page ∷ next ∷ rest) small cut zero lt = omega arith
 pages_below p stored (page ∷ next ∷ rest) small cut (suc q) lt =
     let all : length (bytes_of_pages stored (page ∷ next ∷ rest)) ≡ length (bytes_of_page stored page) + length (bytes_of_pages stored (next ∷ rest)) =
@@ -125,7 +119,7 @@ pages_enough : (p : ℕ) (stored : List (ℕ × List ℕ)) (pages : List ℕ) �
 pages_enough p stored [] pos small cut = absurd cut
 pages_enough p stored (page ∷ []) pos small cut =
     let all : length (bytes_of_pages stored (page ∷ [])) ≡ length (bytes_of_page stored page) + 0 = length-append (bytes_of_page stored page) [] in
-    let some = (page_size_of p stored page small cut).0 in
+    let some = (page_small p stored page small cut).0 in
     let one : 1 ≤ (length (bytes_of_pages stored (page ∷ [])) + p - 1) / p = le-div 1 (length (bytes_of_pages stored (page ∷ [])) + p - 1) p pos (omega (arith, all, some)) in
     omega (arith, one)
 pages_enough p stored (page ∷ next ∷ rest) pos small cut =
@@ -359,14 +353,11 @@ pages_none p us v lo hi count e z =
 -- ---- a walk down a tree
 pub walk_apart : (h p : ℕ) (w : World) (blob j q first last : ℕ) → (last < q * 2 ^ h) ⊎ ((q + 1) * 2 ^ h ≤ first) → tree_walk_from h p w blob j q first last ≡ nothing
 unfolding tree_walk_from
-walk_apart zero p w blob j q first last past = elim past [
-  | inl late ↦ (let e : (nat_le q last && nat_le first q) ≡ false = grind (arith, nat_tests) in rw (e, tree_walk_from))
-  | inr early ↦ (let e : (nat_le q last && nat_le first q) ≡ false = grind (arith, nat_tests) in rw (e, tree_walk_from))
-]
-walk_apart (suc h) p w blob j q first last past = elim past [
-  | inl late ↦ (let e : (nat_le (q * 2 ^ suc h) last && nat_lt first ((q + 1) * 2 ^ suc h)) ≡ false = grind (arith, nat_tests) in rw (e, tree_walk_from))
-  | inr early ↦ (let e : (nat_le (q * 2 ^ suc h) last && nat_lt first ((q + 1) * 2 ^ suc h)) ≡ false = grind (arith, nat_tests) in rw (e, tree_walk_from))
-]
+walk_apart zero p w blob j q first last past =
+    let e : (nat_le q last && nat_le first q) ≡ false = elim past [ inl late ↦ grind (arith, nat_tests) | inr early ↦ grind (arith, nat_tests) ] in rw (e, tree_walk_from)
+walk_apart (suc h) p w blob j q first last past =
+    let e : (nat_le (q * 2 ^ suc h) last && nat_lt first ((q + 1) * 2 ^ suc h)) ≡ false = elim past [ inl late ↦ grind (arith, nat_tests) | inr early ↦ grind (arith, nat_tests) ] in
+    rw (e, tree_walk_from)
 
 pub walk_leaf : (p : ℕ) (w : World) (blob j q first last : ℕ) → first ≤ q → q ≤ last → tree_walk_from 0 p w blob j q first last ≡ leaf_walk j p w blob j q
 unfolding tree_walk_from
@@ -514,9 +505,6 @@ tree_pages c p w blob b v first last pos s bs upto le inside (suc h) q j enters 
 span_some : (p n : ℕ) → 1 ≤ n → span_of p n ≡ p * 2 ^ height_of p n
 unfolding span_of
 span_some p n h = grind (arith, nat_tests)
-
-abbrev ranged : ℕ → ℕ → Range
-ranged o s = record { offset = o; size = s }
 
 root_is : (p : ℕ) (log : List Touch) (v size : ℕ) → size_at log v ≡ size → 1 ≤ size → root_of p log v ≡ tree_range p (height_of p size) 0
 root_is p log v size e some =

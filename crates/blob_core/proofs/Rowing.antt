@@ -30,7 +30,7 @@ use Rattle.blob_core.specs.World.{IsKnown, node_at, log_of}
 use Rattle.blob_core.specs.Acts.{AreThere, IsLogOf}
 use Rattle.blob_core.proofs.Lists.{none_some}
 use Rattle.blob_core.proofs.Growing.{length_log, size_in_log}
-use Rattle.blob_core.proofs.Finding.{size_pos, test_same, touched_node, uncovered}
+use Rattle.blob_core.proofs.Finding.{ranged, size_pos, test_same, touched_node, uncovered}
 use Rattle.range_log.proofs.Walk.{double}
 use Rattle.blob_core.proofs.Logs.{get_or_any}
 use Rattle.blob_core.proofs.Sound.{log_size}
@@ -85,9 +85,6 @@ extent_here us k u n lt is size =
     extent_is us k lt ∙ sym (ap (λ (x : Update). E x n) here ∙ ap (λ (m : ℕ). E (update_at us (suc k)) m) size)
 
 -- ---- a range of the row
-abbrev span_at : ℕ → ℕ → Range
-span_at offset size = record { offset = offset; size = size }
-
 larger : (p h q : ℕ) → 1 ≤ p → (p * 2 ^ h ≡ p → ⊥) → p * 2 ^ h % 2 ≡ 0
 larger p zero q pos apart = absurd (apart (omega arith))
 larger p (suc h) q pos apart = (let e : p * 2 ^ suc h ≡ 2 * (p * 2 ^ h) = double p h in omega arith)
@@ -102,7 +99,7 @@ even_size p r pos (h, q, e) apart =
 one_page : (p h q : ℕ) → 1 ≤ p → p * 2 ^ h ≡ p → tree_range p h q ≡ page_range p (q * (p * 2 ^ h) / p)
 one_page p zero q pos e =
     let i : q * (p * 2 ^ 0) / p ≡ q = ap (λ (n : ℕ). q * n / p) e ∙ mul-div_cancel q pos in
-    ap (λ (n : ℕ). span_at (q * n) n) e ∙ ap (λ (n : ℕ). page_range p n) (sym i)
+    ap (λ (n : ℕ). ranged (q * n) n) e ∙ ap (λ (n : ℕ). page_range p n) (sym i)
 one_page p (suc h) q pos e = absurd (omega (arith, size_pos p h pos, double p h))
 
 -- a range of a page's size is that page
