@@ -2,7 +2,7 @@
 use Rattle.std.proofs.Common.{◌≡◌, ◌⊎◌, ℕ, ◌+◌, ◌*◌, ◌<◌, ◌≤◌, zero, suc, Bool, true, false, List, [], ◌∷◌, ◌++◌, length, take, drop, arith, inl, inr, refl, ap, sym, subst, ◌∙◌, append-nil}
 use Rattle.std.specs.Prelude.{◌==◌, ◌&&◌, Option, Some, None, slice_get, slice_set, slice_index_or, replicate}
 use Rattle.std.proofs.lemmas.Bool.Decides.{nat_tests}
-use Rattle.std.proofs.lemmas.List.{length-append}
+use Rattle.std.proofs.lemmas.List.{length-append, take_all}
 use Rattle.std.proofs.Math.Seq.{take-append_seam, drop-append-add}
 use Rattle.std.proofs.Math.ListN.{drop_of_length-le}
 use Rattle.blob_model.specs.Store.{true_prefix}
@@ -200,12 +200,6 @@ next_full : (p i : ℕ) (b rest : List ℕ) → length b ≡ p → drop (suc i *
 next_full p i b rest e =
     let f : suc i * p ≡ length b + i * p = omega arith in
     ap (λ (n : ℕ). drop n (b ++ rest)) f ∙ drop-append-add b rest (i * p)
-
-take_all : (p : ℕ) (b : List ℕ) → length b ≤ p → take p b ≡ b
-take_all zero [] le = refl
-take_all (suc p) [] le = refl
-take_all zero (x ∷ b) le = absurd (omega arith)
-take_all (suc p) (x ∷ b) le = ap (λ (l : List ℕ). x ∷ l) (take_all p b (omega arith))
 
 -- Page i of the buffer that some pages hold is item i of the pages.
 pub nth_is : (p : ℕ) (a : List (ℕ × List ℕ)) → SmallPages p a → (ns : List ℕ) (i : ℕ) → AreCut p a ns → take p (drop (i * p) (bytes_of_pages a ns)) ≡ nth_page a ns i

@@ -1,6 +1,6 @@
 -- A read by links brings the content, and visits no more nodes than the bound.
 use Rattle.std.proofs.Common.{◌≡◌, ◌⊎◌, ℕ, ◌+◌, ◌-◌, ◌*◌, ◌/◌, ◌^◌, ◌<◌, ◌≤◌, zero, suc, Bool, true, false, List, [], ◌∷◌, ◌++◌, length, take, drop, arith, inl, inr, refl, ap, sym, subst, ◌∙◌, max, min, append-nil, take-add, length-append, length-drop, length-take}
-use Rattle.std.proofs.Math.Seq.{take-length}
+use Rattle.std.proofs.Math.Seq.{take-length, take-nil, drop-nil}
 use Rattle.std.specs.Prelude.{◌==◌, ◌&&◌, nat_le, nat_lt, if◌then◌else◌, Option, Some}
 use Rattle.std.specs.List.{range_with_len, sum_by}
 use Rattle.std.proofs.lemmas.Bool.{cases_lt}
@@ -38,19 +38,11 @@ use Rattle.blob_core.proofs.Keeping.{Stands, BlobStands, UpdateStands, rows_know
 use Rattle.tree_geom.proofs.Spans.{height_enough}
 
 -- ---- lists
-take_none : (n : ℕ) → take {A = ℕ} n [] ≡ []
-take_none zero = refl
-take_none (suc n) = refl
-
-drop_none : (n : ℕ) → drop {A = ℕ} n [] ≡ []
-drop_none zero = refl
-drop_none (suc n) = refl
-
 -- bytes put over none at the beginning are themselves
 put_none : (start : ℕ) (own : List ℕ) → put [] start own ≡ own
 put_none start own =
-    ap (λ (l : List ℕ). l ++ own ++ drop (start + length own) []) (take_none start)
-    ∙ ap (λ (l : List ℕ). own ++ l) (drop_none (start + length own))
+    ap (λ (l : List ℕ). l ++ own ++ drop (start + length own) []) (take-nil start)
+    ∙ ap (λ (l : List ℕ). own ++ l) (drop-nil (start + length own))
     ∙ append-nil own
 
 -- ---- a leaf
