@@ -1,10 +1,12 @@
 """What the tests have in common: the built server, servers that answer what a test says, and a relay between a client and a server."""
 import contextlib
+import functools
 import os
 import pathlib
 import random
 import re
 import shlex
+import signal
 import socket
 import struct
 import subprocess
@@ -180,9 +182,11 @@ class ProgramCase:
 
     @contextlib.contextmanager
     def running(self, address, *words, **streams):
-        """The program while it runs, as a Popen, with pipes unless said otherwise."""
+        """The program while it runs, as a Popen, with pipes unless said otherwise. A shell that runs the tests in the background makes them pass over
+        Ctrl-C; the program shall not."""
         pipes = {name: subprocess.PIPE for name in ("stdin", "stdout", "stderr")}
-        with subprocess.Popen([*CLIENT, address, *words], **{**pipes, **streams}) as process:
+        hears = functools.partial(signal.signal, signal.SIGINT, signal.SIG_DFL)
+        with subprocess.Popen([*CLIENT, address, *words], preexec_fn=hears, **{**pipes, **streams}) as process:
             try:
                 yield process
             finally:
