@@ -5,10 +5,10 @@ use Rattle.tree_geom.specs.Geometry.{touched_by}
 use Rattle.range_log.specs.declared.open.OpenTouch.{OpenTouch}
 use Rattle.range_log.specs.Log.{size_at}
 use Rattle.range_log.specs.Extents.{Extent, InBounds, extent_at, touches}
-use Rattle.range_log.specs.Updates.{extents}
 use Rattle.range_log.specs.Open.{open_at}
 use Rattle.page_store.specs.Stored.{Cut, bytes_of_pages}
-use Rattle.snapshot.specs.Versions.{Version, updates_of, IsVersion}
+use Rattle.snapshot.specs.Versions.{Version, IsVersion}
+pub use Rattle.snapshot.specs.Versions.{log_of}
 
 -- a numbered update: who made it, its blob, its version, where it falls, its bytes and the size after it in bytes, the
 -- published version and the waiting updates at its numbering, and its stored pages
@@ -36,11 +36,7 @@ numbered_update caller blob version at len size snapshot waiting pages = record 
   pages = pages;
 }
 
--- what the updates of a version touch
-abbrev pub log_of : Version → List Touch
-log_of s = touches s.page_size (extents (updates_of s))
-
--- and then what the waiting updates touch
+-- what the updates of a version touch, and then what the waiting updates touch
 abbrev pub log_with : Version → List OpenTouch → List Touch
 log_with s waiting = log_of s ++ map (λ (o : OpenTouch). o.touch) waiting
 

@@ -1,34 +1,15 @@
 // What the published snapshot's tree tells of the newest versions of ranges, and of how deep leaves lie.
 ghost use Rattle.std.specs.Prelude.{◌≡◌, ◌+◌, ◌*◌, ◌^◌, ◌<◌, ◌≤◌, length};
-ghost use Rattle.tree_geom.specs.Geometry.{tree_range, height_of, left_half, right_half};
-ghost use Rattle.range_log.specs.Log.{newest_of};
+ghost use Rattle.tree_geom.specs.Geometry.{tree_range, height_of};
 ghost use Rattle.range_log.specs.Depths.{depth_of};
 ghost use Rattle.snapshot.specs.Versions.{size_now, HasNodeFor, NodesLieIn};
 ghost use Rattle.border_hints.specs.Numbered.{log_of};
 ghost use Rattle.border_hints.specs.Borders.{newest_known};
 
-use node_store::{Node, NodeHouse};
+use node_store::NodeHouse;
 use snapshot::RowView;
 use std::sync::ledger::Ledger;
 use tree_geom::Steps;
-
-// How many backs lead on from the leaf of the page in that row, one after another.
-fn leaf_depth<L: Ledger>(row: &RowView, nodes: &NodeHouse, page: u64, steps: &mut Steps<L>) -> u32
-    requires here { NodesLieIn nodes.now row.now.version }
-    requires has { HasNodeFor row.now.version row.now.update (tree_range row.now.version.page_size 0 page) }
-    ensures depth { result ≡ depth_of row.now.version.page_size (log_of row.now.version) row.now.update page }
-    ensures step { steps.new ≡ steps.old + 1 }
-{
-    tree_geom::laws::ranges_align();
-    row.stands();
-    let Some(node) = row.find(0, page, steps) else {
-        unreachable!()
-    };
-    match nodes.get(&node) {
-        Node::Leaf { depth, .. } => depth,
-        Node::Inner { .. } => unreachable!(),
-    }
-}
 
 /// How deep the newest leaf of the page lies in the version of which that row is one. It is the row of update `at`, the newest that
 /// touches the page, or 0 where none does. In a branch it may be a leaf of the blob that the branch was made from, and the count
@@ -55,32 +36,7 @@ pub(crate) fn depth_known<L: Ledger>(
     if at == 0 {
         return 0;
     }
-    leaf_depth(row, nodes, page, steps)
-}
-
-// The versions whose rows have the nodes of the halves of range number `q` of a height, by its node in that row.
-fn links<L: Ledger>(
-    row: &RowView,
-    nodes: &NodeHouse,
-    level: u32,
-    q: u64,
-    steps: &mut Steps<L>,
-) -> (u64, u64)
-    requires here { NodesLieIn nodes.now row.now.version }
-    requires has { HasNodeFor row.now.version row.now.update (tree_range row.now.version.page_size level q) }
-    requires inner { row.now.version.page_size < row.now.version.page_size * 2 ^ level }
-    ensures left { let s = row.now.version in result.0 ≡ newest_of s.page_size (log_of s) row.now.update (left_half (tree_range s.page_size level q)) }
-    ensures right { let s = row.now.version in result.1 ≡ newest_of s.page_size (log_of s) row.now.update (right_half (tree_range s.page_size level q)) }
-    ensures step { steps.new ≡ steps.old + 1 }
-{
-    row.stands();
-    let Some(node) = row.find(level, q, steps) else {
-        unreachable!()
-    };
-    match nodes.get(&node) {
-        Node::Inner { left, right } => (left, right),
-        Node::Leaf { .. } => unreachable!(),
-    }
+    row.leaf(nodes, page, steps).depth
 }
 
 /// The newest versions for the halves of range number `q` of the height above `level`, in the version of which that row is one. It
@@ -117,5 +73,5 @@ pub(crate) fn halves_known<L: Ledger>(
     if tall <= level {
         return (at, 0);
     }
-    links(row, nodes, level + 1, q, steps)
+    row.links(nodes, level + 1, q, steps)
 }

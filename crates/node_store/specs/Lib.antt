@@ -6,5 +6,6 @@ pub mod NodesKept
 pub mod Shapes
 pub mod Runs
 pub mod Plain
+pub mod Parts
 pub mod Slots
 pub mod RowPages

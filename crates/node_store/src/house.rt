@@ -5,8 +5,10 @@ ghost use Rattle.boxcar.specs.Table.{Shows};
 ghost use Rattle.node_store.specs.House.{IsIn};
 ghost use Rattle.node_store.specs.Slots.{all_slots};
 ghost use Rattle.node_store.specs.NodesKept.{KeepsSlots, room_of, nodes_of};
+ghost use Rattle.node_store.specs.Parts.{HasLinks, HasParts};
 
 use crate::NoMemory;
+use crate::parts::LeafParts;
 use crate::puts::FEW;
 use crate::run::{Few, Many, Others};
 use crate::slots::{First, Sizes, Slots};
@@ -363,6 +365,35 @@ impl NodeHouse {
         match &row.kept {
             Kept::Few(few) => few.node(&row.slots, index),
             Kept::Many(many) => many.node(&row.slots, index),
+        }
+    }
+
+    /// The links of an inner node that was put, the lower half's first, or None where it is a leaf. It waits for nobody and takes no
+    /// memory, and reads no more of the node.
+    #[inline(always)]
+    pub fn links(&self, node: &NodeRef) -> Option<(u64, u64)>
+        requires { IsIn self.now node.now.spot }
+        ensures { HasLinks node.now.node result }
+    {
+        let row = node.nodes;
+        let index = node.index as usize;
+        match &row.kept {
+            Kept::Few(few) => few.links(&row.slots, index),
+            Kept::Many(many) => many.links(&row.slots, index),
+        }
+    }
+
+    /// The parts of a leaf that was put, or None where it is an inner node. It waits for nobody and takes no memory.
+    #[inline(always)]
+    pub fn parts(&self, node: &NodeRef) -> Option<LeafParts>
+        requires { IsIn self.now node.now.spot }
+        ensures { HasParts node.now.node result }
+    {
+        let row = node.nodes;
+        let index = node.index as usize;
+        match &row.kept {
+            Kept::Few(few) => few.parts(&row.slots, index),
+            Kept::Many(many) => many.parts(&row.slots, index),
         }
     }
 }

@@ -8,6 +8,7 @@
 mod folds;
 mod house;
 mod index;
+mod parts;
 mod puts;
 mod row;
 mod run;
@@ -18,5 +19,6 @@ mod stored;
 pub use faults::NoMemory;
 pub use folds::Folds;
 pub use house::{NodeHouse, NodeRef, RowNodes};
+pub use parts::LeafParts;
 pub use row::Row;
 pub use tree_geom::{Node, NodeKey, Piece, Range, Touch};

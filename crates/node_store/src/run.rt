@@ -1,8 +1,10 @@
 // The nodes of a row that were put so far, where they lie in its slots.
-ghost use Rattle.std.specs.Prelude.{◌≡◌, ◌<◌, ◌≤◌, [], ◌∷◌, ◌++◌, length, IfOk, OnOk, OnErr, Some, slice_get, vec_capacity};
+ghost use Rattle.std.specs.Prelude.{◌≡◌, ◌<◌, ◌≤◌, [], ◌∷◌, ◌++◌, length, IfOk, OnOk, OnErr, Some, slice_get, MatchOption, vec_capacity};
 ghost use Rattle.node_store.specs.Runs.{KeepsFew, KeepsMany, few_nodes, many_nodes};
+ghost use Rattle.node_store.specs.Parts.{LinksOf, PartsOf};
 
 use crate::NoMemory;
+use crate::parts::LeafParts;
 use crate::puts::{FEW, Puts};
 use crate::slots::{AnyNode, First, Slots};
 use crate::stored::{Links, PlainLeaf};
@@ -125,15 +127,68 @@ impl Few {
         requires there { index < length (few_nodes self.now) }
         ensures { slice_get (few_nodes self.now) index ≡ Some result }
     {
-        let inners = usize::from(self.inners.count());
-        if index < inners {
-            let slot = self.first.inner as usize + index;
-            return slots.inners[slot].value(self.inners.at(index)).node();
+        match self.inner(slots, index) {
+            Some(links) => links.node(),
+            None => self.leaf(slots, index).node(),
         }
-        let slot = self.first.leaf as usize + (index - inners);
-        slots.leaves[slot]
-            .value(self.leaves.at(index - inners))
-            .node()
+    }
+
+    /// The links of node `index`, counted from 0, or None where it is a leaf.
+    #[inline(always)]
+    pub(crate) fn links(&self, slots: &Slots, index: usize) -> Option<(u64, u64)>
+        requires keeps { KeepsFew slots.now self.now }
+        requires there { index < length (few_nodes self.now) }
+        ensures { LinksOf (few_nodes self.now) index result }
+    {
+        match self.inner(slots, index) {
+            Some(links) => Some(links.versions()),
+            None => {
+                self.leaf(slots, index).stands();
+                None
+            }
+        }
+    }
+
+    /// The parts of node `index`, counted from 0, or None where it is no leaf.
+    #[inline(always)]
+    pub(crate) fn parts(&self, slots: &Slots, index: usize) -> Option<LeafParts>
+        requires keeps { KeepsFew slots.now self.now }
+        requires there { index < length (few_nodes self.now) }
+        ensures { PartsOf (few_nodes self.now) index result }
+    {
+        match self.inner(slots, index) {
+            Some(links) => {
+                links.stands();
+                None
+            }
+            None => Some(self.leaf(slots, index).parts()),
+        }
+    }
+
+    // Node `index`, where it is one of the inner nodes.
+    #[inline(always)]
+    fn inner<'s>(&self, slots: &'s Slots, index: usize) -> Option<&'s Links>
+        requires { KeepsFew slots.now self.now }
+        ensures { MatchOption result (length self.now.inners ≤ index) (λ links. slice_get (few_nodes self.now) index ≡ Some links.now) }
+    {
+        if index >= usize::from(self.inners.count()) {
+            return None;
+        }
+        let slot = self.first.inner as usize + index;
+        Some(slots.inners[slot].value(self.inners.at(index)))
+    }
+
+    // Node `index`, which is one of the leaves.
+    #[inline(always)]
+    fn leaf<'s>(&self, slots: &'s Slots, index: usize) -> &'s PlainLeaf
+        requires keeps { KeepsFew slots.now self.now }
+        requires there { index < length (few_nodes self.now) }
+        requires behind { length self.now.inners ≤ index }
+        ensures { slice_get (few_nodes self.now) index ≡ Some result.now }
+    {
+        let at = index - usize::from(self.inners.count());
+        let slot = self.first.leaf as usize + at;
+        slots.leaves[slot].value(self.leaves.at(at))
     }
 }
 
@@ -182,6 +237,45 @@ impl Many {
         ensures { slice_get (many_nodes self.now) index ≡ Some result }
     {
         *slots.nodes[index].value(&self.puts[index])
+    }
+
+    /// The links of node `index`, counted from 0, or None where it is a leaf.
+    #[inline(never)]
+    pub(crate) fn links(&self, slots: &Slots, index: usize) -> Option<(u64, u64)>
+        requires keeps { KeepsMany slots.now self.now }
+        requires there { index < length (many_nodes self.now) }
+        ensures { LinksOf (many_nodes self.now) index result }
+    {
+        match self.node(slots, index) {
+            Node::Inner { left, right } => Some((left, right)),
+            Node::Leaf { .. } => None,
+        }
+    }
+
+    /// The parts of node `index`, counted from 0, or None where it is no leaf.
+    #[inline(never)]
+    pub(crate) fn parts(&self, slots: &Slots, index: usize) -> Option<LeafParts>
+        requires keeps { KeepsMany slots.now self.now }
+        requires there { index < length (many_nodes self.now) }
+        ensures { PartsOf (many_nodes self.now) index result }
+    {
+        match self.node(slots, index) {
+            Node::Leaf {
+                start,
+                count: _,
+                first,
+                second,
+                depth,
+                back,
+            } => Some(LeafParts {
+                start,
+                first,
+                second,
+                back,
+                depth,
+            }),
+            Node::Inner { .. } => None,
+        }
     }
 }
 

@@ -1,6 +1,10 @@
 // Nodes as slots hold them, in few bytes.
-ghost use Rattle.std.specs.Prelude.{◌≡◌, IfSome};
+ghost use Rattle.std.specs.Prelude.{◌≡◌, IfSome, true, false};
+ghost use Rattle.tree_geom.specs.declared.node.Node.TheVariants.{Inner};
+ghost use Rattle.tree_geom.specs.Nodes.{is_leaf};
+ghost use Rattle.node_store.specs.Parts.{IsPartsOf};
 
+use crate::parts::LeafParts;
 use std::marker::Model;
 use tree_geom::{Node, Piece};
 
@@ -44,11 +48,23 @@ impl Links {
     pub(crate) fn node(&self) -> Node
         ensures { result ≡ self.now }
     {
-        Node::Inner {
-            left: u64::from(self.left),
-            right: u64::from(self.right),
-        }
+        let (left, right) = self.versions();
+        Node::Inner { left, right }
     }
+
+    /// The versions that it links to.
+    #[inline(always)]
+    pub(crate) fn versions(&self) -> (u64, u64)
+        ensures { self.now ≡ Inner result.0 result.1 }
+    {
+        (u64::from(self.left), u64::from(self.right))
+    }
+
+    /// It is no leaf. For proofs: it does nothing.
+    #[inline(always)]
+    pub(crate) fn stands(&self)
+        ensures { is_leaf self.now ≡ false }
+    {}
 }
 
 /// A leaf whose back is below 2^32, and whose second piece, if it has one, begins the stored page after that of the first.
@@ -128,28 +144,50 @@ impl PlainLeaf {
     pub(crate) fn node(&self) -> Node
         ensures { result ≡ self.now }
     {
+        let LeafParts {
+            start,
+            first,
+            second,
+            back,
+            depth,
+        } = self.parts();
+        Node::Leaf {
+            start,
+            count: if self.more == 0 { 1 } else { 2 },
+            first,
+            second,
+            depth,
+            back,
+        }
+    }
+
+    /// It is a leaf. For proofs: it does nothing.
+    #[inline(always)]
+    pub(crate) fn stands(&self)
+        ensures { is_leaf self.now ≡ true }
+    {}
+
+    /// Its parts.
+    #[inline(always)]
+    pub(crate) fn parts(&self) -> LeafParts
+        ensures { IsPartsOf self.now result }
+    {
         let first = Piece {
             page: self.page,
             from: self.from,
             len: self.len,
         };
-        let (count, page) = if self.more == 0 {
-            (1, 0)
-        } else {
-            (2, self.page + 1)
-        };
         let second = Piece {
-            page,
+            page: if self.more == 0 { 0 } else { self.page + 1 },
             from: 0,
             len: self.more,
         };
-        Node::Leaf {
+        LeafParts {
             start: self.start,
-            count,
             first,
             second,
-            depth: self.depth,
             back: u64::from(self.back),
+            depth: self.depth,
         }
     }
 }

@@ -1,4 +1,3 @@
-pub mod Apart
 pub mod Cuts
 pub mod Keeping
 pub mod CallsLemmas

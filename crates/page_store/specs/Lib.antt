@@ -1,6 +1,7 @@
 pub mod House
 pub mod Page
 pub mod Stored
+pub mod Replicas
 pub mod Count
 pub mod Calls
 pub mod Answers

@@ -1,6 +1,5 @@
 -- What a clause sees of a reference to a page, and where a page lies.
-use Rattle.std.specs.Prelude.{◌≡◌, ℕ, ◌-◌, ◌≤◌, List, [], Option, None, length, slice_get, IsSomeAnd, All}
-use Rattle.std.specs.List.{cons_option}
+use Rattle.std.specs.Prelude.{◌≡◌, ℕ, ◌-◌, List, length, slice_get, IsSomeAnd}
 use Rattle.std.specs.Coded.{Coded, coded×, coded_ℕ, coded_list}
 use base.Stored.{coded_via}
 use Rattle.boxcar.specs.Table.{id_at}
@@ -34,9 +33,3 @@ pub record IsIn (house : House) (spot : Spot) : Type 0 where
 pub record IsAmong (houses : List House) (spot : Spot) : Type 0 where
   pub known : IsProvider (length houses) spot.provider
   pub kept : IsSomeAnd (slice_get houses (spot.provider - 1)) (λ house. IsIn house spot)
-
--- the other replicas of a page, of which the second comes first: each stands for the same bytes, and there are at most seven
-pub record AreOthers (bytes : List ℕ) (second : Option Page) (others : List Page) : Type 0 where
-  pub same : All (λ (p : Page). p.bytes ≡ bytes) (cons_option second others)
-  pub few : length (cons_option second others) ≤ 7
-  pub in_order : second ≡ None → others ≡ []

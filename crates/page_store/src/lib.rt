@@ -30,6 +30,7 @@ mod door;
 mod flaky;
 mod house;
 mod plain;
+mod replicas;
 mod stored;
 
 pub use door::{Door, DoorMaker, GetAnswer, PutAnswer};
@@ -37,7 +38,8 @@ pub use faults::NoMemory;
 pub use flaky::{FlakyDoor, FlakyMaker};
 pub use house::{Houses, PageHouse, PageRef};
 pub use plain::{PlainDoor, PlainMaker};
-pub use stored::{Pages, StoredPage};
+pub use replicas::StoredPage;
+pub use stored::Pages;
 
 /// The greatest length of a page, in bytes.
 pub const MAX_PAGE: usize = 1_048_576;

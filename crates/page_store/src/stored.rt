@@ -1,139 +1,39 @@
-// A page with its replicas, and the pages of one update.
+// The pages of one update.
 ghost use Rattle.std.specs.Prelude.{◌≡◌, ◌+◌, ◌*◌, ◌<◌, ◌≤◌, length, IfOk, OnOk, OnErr, Some, min};
 ghost use Rattle.std.specs.Prelude.{slice_get, slice_range, [], ◌∷◌, ◌++◌};
 ghost use Rattle.page_store.specs.Stored.{bytes_of_pages, AllFull, IsCut};
 
 use crate::NoMemory;
-use crate::house::PageRef;
+use crate::replicas::StoredPage;
 use std::alloc::Global;
 use std::fmt;
 use std::marker::Model;
 
-/// A page with its replicas: 1 to 8 references that all stand for the same bytes. Most stores keep few replicas: the first two
-/// lie in the page, and the others in one block of memory, if there are any.
-pub struct StoredPage {
-    first: PageRef,
-    second: Option<PageRef>,
-    // none where there is no second one
-    others: Vec<PageRef>,
-}
-
-// By hand, so that it is one call wherever a page is let go: a derived drop stands, with all its calls, at each such place.
-impl Drop for StoredPage {
-    fn drop(self) {
-        let StoredPage {
-            first: _,
-            second: _,
-            others: _,
-        } = self;
-    }
-}
-
-impl Model for StoredPage {
-    ghost use Rattle.std.specs.Prelude.{◌∷◌, map};
-    ghost use Rattle.std.specs.List.{cons_option};
-    ghost use Rattle.page_store.specs.Stored.{Stored, stored_coded};
-    ghost use Rattle.page_store.specs.Page.{AreOthers};
-
-    ghost Value = { Stored };
-
-    ghost coded = { stored_coded };
-
-    ghost view = { λ s. record { bytes = s.first.bytes; spots = s.first.spot ∷ map (λ p. p.spot) (cons_option s.second s.others.items) } };
-
-    ghost invariant = { λ s. AreOthers s.first.bytes s.second s.others.items };
-}
-
-impl StoredPage {
-    /// A page with one replica. It takes no memory.
-    pub fn of(alloc: Global, first: PageRef) -> StoredPage
-        ensures { result ≡ record { bytes = first.bytes; spots = first.spot ∷ [] } }
-    {
-        StoredPage {
-            first,
-            second: None,
-            others: Vec::new(alloc),
-        }
-    }
-
-    /// Adds a replica at the end, where `more` replicas may still follow. A page that has no room left asks once for that
-    /// of this replica and of those, so it takes one block of memory, and none as long as it has two replicas. Where memory
-    /// is refused, the page stays as it was.
-    pub fn add(&mut self, other: PageRef, more: u32) -> Result<(), NoMemory>
-        requires same { other.bytes ≡ self.old.bytes }
-        requires room { length self.old.spots < 8 }
-        ensures added { OnOk result (self.new ≡ record { bytes = self.old.bytes; spots = self.old.spots ++ other.spot ∷ [] }) }
-        ensures err { OnErr result (self.new ≡ self.old) }
-    {
-        if self.second.is_none() {
-            self.second = Some(other);
-            return Ok(());
-        }
-        self.others.reserve_exact(more as usize + 1)?;
-        self.others.push_reserved(other);
-        Ok(())
-    }
-
-    /// The length of the page, in bytes.
-    pub fn len(&self) -> u32
-        ensures { result ≡ length self.now.bytes }
-    {
-        self.first.len()
-    }
-
-    /// The number of replicas, 1 to 8.
-    pub fn replica_count(&self) -> u32
-        ensures count { result ≡ length self.now.spots }
-        ensures some { 1 ≤ result }
-        ensures few { result ≤ 8 }
-    {
-        match &self.second {
-            Some(_) => self.others.len() as u32 + 2,
-            None => 1,
-        }
-    }
-
-    /// Replica `i`, from 0, in the order in which they were added.
-    pub fn replica(&self, i: u32) -> &PageRef
-        requires { i < length self.now.spots }
-        ensures spot { slice_get self.now.spots i ≡ Some result.now.spot }
-        ensures same { result.now.bytes ≡ self.now.bytes }
-    {
-        if i == 0 {
-            return &self.first;
-        }
-        let Some(second) = &self.second else {
-            unreachable!()
-        };
-        if i == 1 {
-            second
-        } else {
-            &self.others[i as usize - 2]
-        }
-    }
+// The pages of an update. One lies here.
+#[derive(Drop)]
+enum PageList {
+    Empty,
+    One(StoredPage),
+    Several(Vec<StoredPage>),
 }
 
 /// The stored pages of one update, which stand for its bytes: the update's bytes cut at multiples of the page size.
-/// All pages but the last have as many bytes as the page size. The first page lies in the list, and the others in one block of
-/// memory, if there are any: so an update of one page takes none.
+/// All pages but the last have as many bytes as the page size. Where there is room for one page alone, it takes no memory of its own.
 pub struct Pages {
-    page_size: u64,
+    page_size: u32,
     room: u32,
     len: u64,
-    first: Option<StoredPage>,
-    // none where there is no first one
-    others: Vec<StoredPage>,
+    pages: PageList,
 }
 
-// By hand, for the same.
+// By hand, so that it is one call wherever pages are let go: a derived drop stands, with all its calls, at each such place.
 impl Drop for Pages {
     fn drop(self) {
         let Pages {
             page_size: _,
             room: _,
             len: _,
-            first: _,
-            others: _,
+            pages: _,
         } = self;
     }
 }
@@ -147,7 +47,7 @@ impl Model for Pages {
 
     ghost use Rattle.page_store.specs.PagesInvariant.{KeepsPages, pages_in};
 
-    ghost view = { λ g. record { page_size = g.page_size; room = g.room; pages = pages_in g } };
+    ghost view = { λ g. record { page_size = g.page_size; room = g.room; pages = pages_in g.pages } };
 
     ghost invariant = { KeepsPages };
 }
@@ -167,12 +67,16 @@ impl Pages {
         requires greatest { p ≤ 1048576 }
         ensures { IfOk result (λ pages. pages ≡ record { page_size = p; room = room; pages = [] }) }
     {
+        let pages = if room <= 1 {
+            PageList::Empty
+        } else {
+            PageList::Several(Vec::with_capacity(alloc, room as usize)?)
+        };
         Ok(Pages {
-            page_size: p,
+            page_size: p as u32,
             room,
             len: 0,
-            first: None,
-            others: Vec::with_capacity(alloc, room.saturating_sub(1) as usize)?,
+            pages,
         })
     }
 
@@ -186,11 +90,11 @@ impl Pages {
         ensures cut { IsCut self.new.page_size self.new.pages }
     {
         self.len += u64::from(page.len());
-        if self.first.is_none() {
-            self.first = Some(page);
-            return;
+        match &mut self.pages {
+            PageList::Empty => self.pages = PageList::One(page),
+            PageList::One(_) => unreachable!(),
+            PageList::Several(pages) => pages.push_reserved(page),
         }
-        self.others.push_reserved(page);
     }
 
     /// The number of pages.
@@ -200,9 +104,10 @@ impl Pages {
         ensures enough { length (bytes_of_pages self.now.pages) ≤ result * self.now.page_size }
     {
         let _room = self.room;
-        match &self.first {
-            Some(_) => self.others.len() as u32 + 1,
-            None => 0,
+        match &self.pages {
+            PageList::Empty => 0,
+            PageList::One(_) => 1,
+            PageList::Several(pages) => pages.len() as u32,
         }
     }
 
@@ -227,13 +132,10 @@ impl Pages {
         ensures this { slice_get self.now.pages i ≡ Some result.now }
         ensures bytes { result.now.bytes ≡ slice_range (bytes_of_pages self.now.pages) (i * self.now.page_size) (min ((i + 1) * self.now.page_size) (length (bytes_of_pages self.now.pages))) }
     {
-        let Some(first) = &self.first else {
-            unreachable!()
-        };
-        if i == 0 {
-            first
-        } else {
-            &self.others[i as usize - 1]
+        match &self.pages {
+            PageList::Empty => unreachable!(),
+            PageList::One(page) => page,
+            PageList::Several(pages) => &pages[i as usize],
         }
     }
 
@@ -247,10 +149,12 @@ impl Pages {
             page_size: _,
             room: _,
             len: _,
-            first,
-            others,
+            pages,
         } = self;
-        others.destroy_empty();
-        first.unwrap()
+        match pages {
+            PageList::Empty => unreachable!(),
+            PageList::One(page) => page,
+            PageList::Several(mut pages) => pages.pop().unwrap(),
+        }
     }
 }

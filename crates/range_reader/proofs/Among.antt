@@ -8,16 +8,11 @@ use Rattle.page_store.specs.House.{House}
 use Rattle.page_store.specs.Page.{IsAmong}
 use Rattle.page_store.specs.Stored.{Stored, LieAmong}
 use Rattle.node_store.specs.UpdateRows.{stored_of}
-use Rattle.snapshot.specs.Versions.{Version, no_row, row_at, update_of_row, updates_of, HasNodeFor, PagesLieIn}
-use Rattle.range_log.proofs.Bytes.{length-extents}
-use Rattle.range_reader.specs.Reading.{falls, no_stored, stored_bytes}
-use Rattle.range_log.proofs.Grown.{length-touches}
+use Rattle.snapshot.specs.Versions.{Version, no_row, row_at, update_of_row, updates_of, PagesLieIn}
+use Rattle.range_reader.specs.Reading.{no_stored, stored_bytes}
 
 pub length-updates : (s : Version) → length (updates_of s) ≡ length s.rows
 length-updates s = length-map s.rows update_of_row
-
-pub in_rows : (s : Version) (j : ℕ) (range : Range) → HasNodeFor s j range → (1 ≤ j) × (j ≤ length s.rows)
-in_rows s j range has = (has.version.0, omega (arith, has.version.1, length-touches s.page_size (falls s), length-extents (updates_of s), length-updates s))
 
 rows_pages : (houses : List House) (s : Version) (j : ℕ) → PagesLieIn houses s → 1 ≤ j → j ≤ length s.rows → LieAmong houses (stored_of (row_at s.rows j))
 rows_pages houses s zero here some le = absurd (omega arith)

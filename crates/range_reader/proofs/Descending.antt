@@ -53,7 +53,7 @@ high_half high p h page odd =
     ap (λ q. right_half (tree_range p (h + 1) q)) over ∙ ap (λ k. right_half (tree_range p k (page / 2 ^ h / 2))) next
     ∙ high p h (page / 2 ^ h / 2) ∙ ap (tree_range p h) twice
 
-inner_size : (p h : ℕ) → 1 ≤ p → p < p * 2 ^ (h + 1)
+pub inner_size : (p h : ℕ) → 1 ≤ p → p < p * 2 ^ (h + 1)
 inner_size p h pos =
     let next : h + 1 ≡ suc h = omega arith in
     let d : p * 2 ^ (h + 1) ≡ 2 * (p * 2 ^ h) = ap (λ k. p * 2 ^ k) next ∙ double p h in
@@ -63,24 +63,6 @@ inner_size p h pos =
 pub page_some : (p x : ℕ) → 0 < p * x → 1 ≤ p
 page_some zero x some = absurd (omega arith)
 page_some (suc p) x some = omega arith
-
--- ---- the node over a page
--- it is an inner one
-pub inner_node : (p h q j : ℕ) (xs : List Extent) → 1 ≤ p → node_of p xs j (tree_range p (h + 1) q) ≡ inner_of p xs j (tree_range p (h + 1) q)
-inner_node p h q j xs pos =
-    let large : p < p * 2 ^ (h + 1) = inner_size p h pos in
-    let e : (p * 2 ^ (h + 1) == p) ≡ false = grind (arith, nat_tests) in
-    rw e
-
--- its link to the half with the page
-module _ (p h page j : ℕ) (xs : List Extent) (n : Node) (pos : 1 ≤ p) (is : n ≡ node_of p xs j (tree_range p (h + 1) (page / 2 ^ (h + 1)))) where
-  pub left_toward : LowHalvesAlign → page / 2 ^ h % 2 ≡ 0 → left_link n ≡ newest_of p (touches p xs) j (tree_range p h (page / 2 ^ h))
-  left_toward low even =
-      ap left_link (is ∙ inner_node p h (page / 2 ^ (h + 1)) j xs pos) ∙ ap (newest_of p (touches p xs) j) (low_half low p h page even)
-
-  pub right_toward : HighHalvesAlign → page / 2 ^ h % 2 ≢ 0 → right_link n ≡ newest_of p (touches p xs) j (tree_range p h (page / 2 ^ h))
-  right_toward high odd =
-      ap right_link (is ∙ inner_node p h (page / 2 ^ (h + 1)) j xs pos) ∙ ap (newest_of p (touches p xs) j) (high_half high p h page odd)
 
 -- ---- from the root down
 -- `at` is the version of the newest node of that height over the page

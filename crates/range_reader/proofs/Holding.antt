@@ -10,9 +10,10 @@ use Rattle.range_log.specs.Laws.{BacksHaveNoHoles, BacksLead, ExtentsStand, Page
 use Rattle.node_store.specs.UpdateRows.{stored_of}
 use Rattle.snapshot.specs.Versions.{Version, row_at, updates_of, size_now, HasNodeFor, IsVersion}
 use Rattle.tree_geom.proofs.Spans.{page_pos}
-use Rattle.range_reader.specs.declared.source.LeafParts.{LeafParts}
+use Rattle.node_store.specs.declared.parts.LeafParts.{LeafParts}
 use Rattle.range_reader.specs.Reading.{falls, newest_in, page_in, own_start, own_len, IsLeafOf}
-use Rattle.range_reader.specs.Holders.{HasByte, piece_with}
+use Rattle.node_store.specs.Parts.{piece_with}
+use Rattle.range_reader.specs.Holders.{HasByte}
 use Rattle.range_reader.proofs.Going.{newest_length}
 use Rattle.range_reader.proofs.Leaves.{LeafOf}
 use Rattle.range_reader.proofs.Taking.{lens, first_is, second_is}

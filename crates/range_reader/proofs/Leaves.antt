@@ -28,7 +28,8 @@ use Rattle.range_reader.specs.Reading.{falls, log_of, page_in, leaf_in, no_store
 use Rattle.range_reader.proofs.LeafBytes.{LeafIs, leaf_is, read_own, read_back, own_valid, length-page}
 use Rattle.range_reader.proofs.Parts.{part_read, length_part}
 use Rattle.range_reader.proofs.NodeParts.{counts_one}
-use Rattle.range_reader.proofs.Among.{in_rows, length-updates}
+use Rattle.snapshot.proofs.Finding.{in_rows}
+use Rattle.range_reader.proofs.Among.{length-updates}
 use Rattle.range_reader.proofs.Joining.{first_from, second_from}
 use Rattle.tree_geom.proofs.Spans.{page_pos}
 

@@ -10,7 +10,7 @@ use Rattle.range_log.specs.Laws.{LeavesFill, LeavesFit, PiecesFit, FoldsAre, Pag
 use Rattle.snapshot.specs.Versions.{Version, HasNodeFor, IsVersion}
 use Rattle.tree_geom.proofs.Spans.{page_pos}
 use Rattle.range_reader.specs.declared.source.LeafAt.{LeafAt}
-use Rattle.range_reader.specs.declared.source.LeafParts.{LeafParts}
+use Rattle.node_store.specs.declared.parts.LeafParts.{LeafParts}
 use Rattle.range_reader.specs.Faults.{HasPieceIn}
 use Rattle.range_reader.specs.Reading.{falls, page_in, leaf_in, own_start, own_len, stored_bytes, IsLeafOf}
 use Rattle.range_reader.proofs.Parts.{part_read, length_part}

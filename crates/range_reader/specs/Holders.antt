@@ -1,10 +1,10 @@
 -- Which stored page holds a byte of a version.
-use Rattle.std.specs.Prelude.{◌≡◌, ℕ, ◌+◌, ◌/◌, ◌%◌, ◌<◌, ◌≤◌, Some, slice_get, nat_lt, if◌then◌else◌}
-use Rattle.tree_geom.specs.declared.node.Piece.{Piece}
+use Rattle.std.specs.Prelude.{◌≡◌, ℕ, ◌+◌, ◌/◌, ◌%◌, ◌<◌, ◌≤◌, Some, slice_get}
 use Rattle.tree_geom.specs.Geometry.{page_range}
 use Rattle.tree_geom.specs.Nodes.{first_of, second_of}
 use Rattle.range_log.specs.Rows.{back_of}
 use Rattle.page_store.specs.Stored.{Stored}
+use Rattle.node_store.specs.Parts.{piece_with}
 use Rattle.node_store.specs.UpdateRows.{stored_of}
 use Rattle.snapshot.specs.Versions.{Version, row_at}
 use Rattle.range_reader.specs.Reading.{falls, newest_in, leaf_in, own_start, own_len}
@@ -18,10 +18,6 @@ HasByte s j i b = (own_start s j i ≤ b) × (b < own_start s j i + own_len s j 
 pub data IsReached (s : Version) (i b : ℕ) : ℕ → Type 0 where
   Newest : IsReached s i b (newest_in s (page_range s.page_size i))
   Older : (j : ℕ) → IsReached s i b j → ¬ HasByte s j i b → 1 ≤ back_of s.page_size (falls s) j i → IsReached s i b (back_of s.page_size (falls s) j i)
-
--- that of a leaf's two pieces which has byte b of the page, where the leaf's bytes begin at byte `start`
-abbrev pub piece_with : ℕ → Piece → Piece → ℕ → Piece
-piece_with start first second b = if nat_lt b (start + first.len) then first else second
 
 -- the number of the stored page, among those of update j, in which its leaf of page i has byte b
 abbrev pub stored_with : Version → ℕ → ℕ → ℕ → ℕ

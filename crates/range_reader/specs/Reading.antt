@@ -2,32 +2,23 @@
 use Rattle.std.specs.Prelude.{◌≡◌, ℕ, ◌+◌, ◌*◌, ◌<◌, ◌==◌, List, [], length, slice_index_or, slice_range, if◌then◌else◌}
 use Rattle.std.specs.List.{sum_by}
 use Rattle.blob_model.specs.Content.{content}
-use Rattle.tree_geom.specs.declared.touch.Touch.{Touch}
 use Rattle.tree_geom.specs.declared.range.Range.{Range}
 use Rattle.tree_geom.specs.declared.node.Node.{Node}
 use Rattle.tree_geom.specs.Geometry.{left_half, right_half, height_of}
 use Rattle.tree_geom.specs.Nodes.{start_of, first_of, second_of}
 use Rattle.range_log.specs.Log.{newest_of}
-use Rattle.range_log.specs.Extents.{Extent, touches}
-use Rattle.range_log.specs.Updates.{extents, page_bytes}
+use Rattle.range_log.specs.Updates.{page_bytes}
 use Rattle.range_log.specs.Rows.{back_of, leaf_of}
 use Rattle.range_log.specs.Visits.{visits, pages_met, backs_of}
 use Rattle.range_log.specs.Depths.{depth_of}
 use Rattle.page_store.specs.Stored.{Stored}
 use Rattle.node_store.specs.UpdateRows.{stored_of}
 use Rattle.snapshot.specs.Versions.{Version, row_at, updates_of, size_now}
-use Rattle.range_reader.specs.declared.source.LeafParts.{LeafParts}
+pub use Rattle.snapshot.specs.Versions.{falls, log_of}
+use Rattle.node_store.specs.declared.parts.LeafParts.{LeafParts}
 use Rattle.range_reader.specs.declared.known.KnownNode.{KnownNode}
 
--- where the updates of the version fall
-abbrev pub falls : Version → List Extent
-falls s = extents (updates_of s)
-
--- what they touch
-abbrev pub log_of : Version → List Touch
-log_of s = touches s.page_size (falls s)
-
--- the newest of them that touches the range
+-- the newest update of the version that touches the range
 abbrev pub newest_in : Version → Range → ℕ
 newest_in s range = newest_of s.page_size (log_of s) (length s.rows) range
 

@@ -7,7 +7,7 @@ ghost use Rattle.range_reader.specs.Reading.{newest_in, backs_in, bound, bound_o
 ghost use Rattle.range_reader.specs.Answers.{OnPastSize, OnPageFault};
 
 use crate::reader::ReadFault;
-use crate::source::{leaf, links};
+use crate::source::leaf;
 use node_store::NodeHouse;
 use snapshot::{Snapshot, View};
 use std::sync::ledger::Ledger;
@@ -96,7 +96,7 @@ fn depths<L: Ledger>(
         let newest = leaf(snapshot, nodes, at, range.offset / size, steps);
         return u64::from(newest.depth);
     }
-    let (left, right) = links(snapshot, nodes, at, range, steps);
+    let (left, right) = snapshot.links(nodes, at, range, steps);
     let (low, high) = halves(range);
     let end = from + count;
     if end <= high.offset {

@@ -8,8 +8,9 @@ ghost use Rattle.range_reader.specs.Reading.{page_in, IsLeafOf};
 ghost use Rattle.range_reader.specs.Holders.{HasByte};
 ghost use Rattle.range_reader.specs.Faults.{CountsKept, PieceFailed};
 
-use crate::source::{LeafAt, LeafParts, ReadSource};
+use crate::source::{LeafAt, ReadSource};
 use crate::whole::take_leaf;
+use node_store::LeafParts;
 use page_fan::Doors;
 use page_store::Door;
 

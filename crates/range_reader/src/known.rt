@@ -5,7 +5,6 @@ ghost use Rattle.range_log.specs.Log.{newest_of};
 ghost use Rattle.snapshot.specs.Versions.{Version, HasNodeFor, NodesLieIn};
 ghost use Rattle.range_reader.specs.Reading.{log_of, newest_in, IsKnown};
 
-use crate::source::links;
 use node_store::{NoMemory, NodeHouse, Range};
 use snapshot::View;
 use std::alloc::Global;
@@ -57,14 +56,14 @@ pub(crate) fn known_links<L: Ledger>(
     ensures room { length known.new ≡ length known.old }
 {
     if place >= known.len() as u64 {
-        return links(snapshot, nodes, j, range, steps);
+        return snapshot.links(nodes, j, range, steps);
     }
     let place = place as usize;
     let node = known[place];
     if node.range == range {
         return (node.left, node.right);
     }
-    let (left, right) = links(snapshot, nodes, j, range, steps);
+    let (left, right) = snapshot.links(nodes, j, range, steps);
     known[place] = KnownNode { range, left, right };
     (left, right)
 }

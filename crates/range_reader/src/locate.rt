@@ -9,8 +9,8 @@ ghost use Rattle.range_reader.specs.Reading.{falls, newest_in, bound, IsLeafOf};
 ghost use Rattle.range_reader.specs.Holders.{HasByte, IsReached, IsHolder};
 
 use crate::descent::newest_of_page;
-use crate::source::{LeafParts, leaf};
-use node_store::NodeHouse;
+use crate::source::leaf;
+use node_store::{LeafParts, NodeHouse};
 use page_store::StoredPage;
 use snapshot::{Snapshot, View};
 use std::sync::ledger::Ledger;

@@ -10,7 +10,7 @@ ghost use Rattle.range_reader.specs.Faults.{CountsKept, PageFailedIn};
 use crate::descent::newest_knowing;
 use crate::known::KnownNode;
 use crate::page::fill_page;
-use crate::source::{ReadSource, links};
+use crate::source::ReadSource;
 use page_fan::Doors;
 use page_store::Door;
 use std::sync::ledger::Ledger;
@@ -63,7 +63,7 @@ pub(crate) fn walk<D: Door, L: Ledger>(
             false => Err(page),
         };
     }
-    let (left, right) = links(source.view, source.nodes, at, range, steps);
+    let (left, right) = source.view.links(source.nodes, at, range, steps);
     let (low, high) = halves(range);
     let end = from + out.len() as u64;
     if end <= high.offset {

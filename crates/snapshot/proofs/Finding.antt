@@ -18,10 +18,10 @@ use Rattle.boxcar.specs.Table.{Shelves}
 use Rattle.node_store.specs.House.{IsIn}
 use Rattle.node_store.specs.Placed.{PlacedNode}
 use Rattle.node_store.specs.UpdateRows.{UpdateRow, IsNodeFor, HasNoNodeFor, HasRangesOf}
-use Rattle.range_log.proofs.Grown.{touch-touches}
+use Rattle.range_log.proofs.Grown.{touch-touches, length-touches}
 use Rattle.range_log.proofs.Bytes.{length-extents}
 use Rattle.range_log.proofs.Levels.{row_keys_are}
-use Rattle.snapshot.specs.Versions.{Version, row_at, updates_of, IsRowOf, IsVersion, IsFound, HasNodeFor, NodesLieIn, no_row}
+use Rattle.snapshot.specs.Versions.{Version, row_at, updates_of, IsRowOf, IsVersion, IsFound, HasNodeFor, NodesLieIn, no_row, falls}
 use Rattle.snapshot.proofs.Lists.{length-updates}
 use Rattle.tree_geom.proofs.Spans.{page_pos}
 
@@ -131,6 +131,11 @@ some_then None P Q S f h = tt
 some_then (Some x) P Q S f h = f x h
 
 -- ---- where nodes lie
+-- an update whose row has a node is one of the version's
+pub in_rows : (s : Version) (j : ℕ) (range : Range) → HasNodeFor s j range → (1 ≤ j) × (j ≤ length s.rows)
+in_rows s j range has =
+    (has.version.0, omega (arith, has.version.1, length-touches s.page_size (falls s), length-extents (updates_of s), length-updates s.rows))
+
 pub placed_here : (nodes : List Shelves) (s : Version) (j : ℕ) (range : Range) (placed : PlacedNode) → NodesLieIn nodes s → 1 ≤ j → j ≤ length s.rows
     → IsFound s j range placed → IsIn nodes placed.spot
 placed_here nodes s zero range placed here some le found = absurd (omega arith)

@@ -6,8 +6,9 @@ use Rattle.tree_geom.specs.declared.range.Range.{Range}
 use Rattle.boxcar.specs.Table.{Shelves}
 use Rattle.tree_geom.specs.declared.node.NodeKey.{NodeKey}
 use Rattle.tree_geom.specs.Geometry.{no_touch, span_of, IsPageSize}
+use Rattle.tree_geom.specs.declared.touch.Touch.{Touch}
 use Rattle.range_log.specs.Log.{HasNode, touch_at}
-use Rattle.range_log.specs.Extents.{extent_at, touches}
+use Rattle.range_log.specs.Extents.{Extent, extent_at, touches}
 use Rattle.range_log.specs.Updates.{update_at, extents, page_bytes, Replayable}
 use Rattle.range_log.specs.Rows.{folds_of, node_of, row_of}
 use Rattle.page_store.specs.House.{House}
@@ -82,6 +83,14 @@ updates_of s = updates s.rows
 abbrev pub size_now : Version → ℕ
 size_now s = size_of (updates_of s) (length s.rows)
 
+-- where the updates of the version fall
+abbrev pub falls : Version → List Extent
+falls s = extents (updates_of s)
+
+-- what they touch
+abbrev pub log_of : Version → List Touch
+log_of s = touches s.page_size (falls s)
+
 -- ---- rows of updates
 -- the valid bytes, at version k, of the pages that update k stores anew
 abbrev pub fold_bytes : ℕ → List Update → ℕ → List (List ℕ)
@@ -111,12 +120,12 @@ pub record IsVersion (s : Version) : Type 0 where
 -- ---- nodes
 -- the row of update j has a node for the range
 abbrev pub HasNodeFor : Version → ℕ → Range → Type 0
-HasNodeFor s j range = HasNode s.page_size (touches s.page_size (extents (updates_of s))) j range
+HasNodeFor s j range = HasNode s.page_size (log_of s) j range
 
 -- it is the node that the row of update j has for the range, and lies where the row's nodes do
 pub record IsFound (s : Version) (j : ℕ) (range : Range) (placed : PlacedNode) : Type 0 where
   pub has : HasNodeFor s j range
-  pub is : placed.node ≡ node_of s.page_size (extents (updates_of s)) j range
+  pub is : placed.node ≡ node_of s.page_size (falls s) j range
   pub there : placed.spot ≡ (row_at s.rows j).spot
 
 -- the key of the root of the version

@@ -1,13 +1,16 @@
 // A version as it is read.
-ghost use Rattle.std.specs.Prelude.{◌≡◌, ◌+◌, ◌^◌, ◌<◌, ◌≤◌, ◌↔◌, length, IfNone, IfSome, IsNone, Some, slice_get};
+ghost use Rattle.std.specs.Prelude.{◌≡◌, ◌+◌, ◌*◌, ◌^◌, ◌<◌, ◌≤◌, ◌↔◌, length, IfNone, IfSome, IsNone, Some, slice_get};
 ghost use Rattle.blob_model.specs.Content.{size_of};
-ghost use Rattle.tree_geom.specs.Geometry.{tree_range};
+ghost use Rattle.tree_geom.specs.Geometry.{tree_range, left_half, right_half};
+ghost use Rattle.range_log.specs.Log.{newest_of};
+ghost use Rattle.range_log.specs.Rows.{node_of};
+ghost use Rattle.node_store.specs.Parts.{IsPartsOf};
 ghost use Rattle.node_store.specs.UpdateRows.{bytes_of_page, stored_of};
 ghost use Rattle.snapshot.specs.Versions.{row_at, bytes_of, updates_of, older_version};
-ghost use Rattle.snapshot.specs.Versions.{size_now, HasNodeFor, IsFound, root_key, IsVersion};
+ghost use Rattle.snapshot.specs.Versions.{size_now, falls, log_of, HasNodeFor, NodesLieIn, IsFound, root_key, IsVersion};
 
 use crate::version::Snapshot;
-use node_store::{NodeRef, Row};
+use node_store::{LeafParts, NodeHouse, NodeRef, Row};
 use page_store::StoredPage;
 use range_log::laws;
 use std::marker::Model;
@@ -137,6 +140,32 @@ impl<'a> View<'a> {
         self.row(j).at(range, steps)
     }
 
+    /// The versions whose rows have the nodes of the range's halves, the lower one's first: the links of the node that the row of update
+    /// `j` has for the range. It takes one node step.
+    #[inline(always)]
+    pub fn links<L: Ledger>(
+        &self,
+        nodes: &NodeHouse,
+        j: u64,
+        range: Range,
+        steps: &mut Steps<L>,
+    ) -> (u64, u64)
+        requires here { NodesLieIn nodes.now self.now }
+        requires has { HasNodeFor self.now j range }
+        requires inner { self.now.page_size < range.size }
+        ensures left { result.0 ≡ newest_of self.now.page_size (log_of self.now) j (left_half range) }
+        ensures right { result.1 ≡ newest_of self.now.page_size (log_of self.now) j (right_half range) }
+        ensures step { steps.new ≡ steps.old + 1 }
+    {
+        let Some(node) = self.find(j, range, steps) else {
+            unreachable!()
+        };
+        let Some(links) = nodes.links(&node) else {
+            unreachable!()
+        };
+        links
+    }
+
     /// The row of update `j`, from which its nodes are asked for by height and number; update 0 has none. It takes no step: each look
     /// at a node does.
     #[inline(always)]
@@ -219,6 +248,56 @@ impl<'a> RowView<'a> {
         laws::page_bytes_stay();
         let Some(row) = self.row else { unreachable!() };
         row.at_height(height, number, steps)
+    }
+
+    /// The versions whose rows have the nodes of the halves of range number `number` of that height, the lower half's first: the links
+    /// of the row's node of the range. It takes one node step.
+    #[inline(always)]
+    pub fn links<L: Ledger>(
+        &self,
+        nodes: &NodeHouse,
+        height: u32,
+        number: u64,
+        steps: &mut Steps<L>,
+    ) -> (u64, u64)
+        requires here { NodesLieIn nodes.now self.now.version }
+        requires has { HasNodeFor self.now.version self.now.update (tree_range self.now.version.page_size height number) }
+        requires inner { self.now.version.page_size < self.now.version.page_size * 2 ^ height }
+        ensures left { let s = self.now.version in
+            result.0 ≡ newest_of s.page_size (log_of s) self.now.update (left_half (tree_range s.page_size height number)) }
+        ensures right { let s = self.now.version in
+            result.1 ≡ newest_of s.page_size (log_of s) self.now.update (right_half (tree_range s.page_size height number)) }
+        ensures step { steps.new ≡ steps.old + 1 }
+    {
+        let Some(node) = self.find(height, number, steps) else {
+            unreachable!()
+        };
+        let Some(links) = nodes.links(&node) else {
+            unreachable!()
+        };
+        links
+    }
+
+    /// The parts of the leaf that the row has for the page. It takes one node step.
+    #[inline(always)]
+    pub fn leaf<L: Ledger>(
+        &self,
+        nodes: &NodeHouse,
+        page: u64,
+        steps: &mut Steps<L>,
+    ) -> LeafParts
+        requires here { NodesLieIn nodes.now self.now.version }
+        requires has { HasNodeFor self.now.version self.now.update (tree_range self.now.version.page_size 0 page) }
+        ensures parts { let s = self.now.version in IsPartsOf (node_of s.page_size (falls s) self.now.update (tree_range s.page_size 0 page)) result }
+        ensures step { steps.new ≡ steps.old + 1 }
+    {
+        let Some(node) = self.find(0, page, steps) else {
+            unreachable!()
+        };
+        let Some(parts) = nodes.parts(&node) else {
+            unreachable!()
+        };
+        parts
     }
 
     /// The version's rows are those of some updates within bounds, as a version keeps them, and the update is one of them, or 0. For

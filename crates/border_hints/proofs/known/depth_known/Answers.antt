@@ -1,4 +1,4 @@
-use Rattle.std.proofs.Common.{◌≡◌, ℕ, length, arith, ap, sym, ◌∙◌}
+use Rattle.std.proofs.Common.{◌≡◌, ℕ, length, arith, refl, ap, sym, ◌∙◌}
 use Rattle.tree_geom.specs.Geometry.{tree_range}
 use Rattle.range_log.specs.Log.{newest_of}
 use Rattle.range_log.specs.Depths.{depth_of}
@@ -8,6 +8,7 @@ use Rattle.tree_geom.specs.Laws.{PagesAlign}
 use Rattle.tree_geom.proofs.Spans.{page_pos}
 use Rattle.border_hints.specs.Numbered.{log_of}
 use Rattle.border_hints.specs.Borders.{newest_known}
+use Rattle.border_hints.proofs.Depths.{leaf_says}
 use Rattle.border_hints.proofs.Tickets.{length-log_of}
 use Rattle.border_hints.proofs.Published.{log_grown, newest_leaf}
 use Rattle.range_log.proofs.Depths.{depth_none}
@@ -27,8 +28,8 @@ returns-then-at-eq0-clause-depth g c =
     ∙ ap (λ n. depth_of s.page_size (log_of s) n c.args.page) (sym c.if-at-eq0.true)
     ∙ at_newest c.ranges_align.ensures.pages c.depth_counts_backs.ensures.newest s c.args.at c.args.page c.requires.at
 
-pub leaf_depth-requires-clause-has : goal.leaf_depth-requires-clause-has
-leaf_depth-requires-clause-has g c =
+pub leaf-requires-clause-has : goal.leaf-requires-clause-has
+leaf-requires-clause-has g c =
     let s = c.args.row.now.version in
     let pos = page_pos s.page_size c.stands.ensures.version.page_size in
     newest_leaf c.newest_has_node.ensures.node s.page_size (log_of s) (length s.rows) c.args.page c.args.row.now.update
@@ -37,5 +38,7 @@ leaf_depth-requires-clause-has g c =
 
 pub returns-clause-depth : goal.returns-clause-depth
 returns-clause-depth g c =
-    c.leaf_depth.ensures.depth
-    ∙ at_newest c.ranges_align.ensures.pages c.depth_counts_backs.ensures.newest c.args.row.now.version c.args.row.now.update c.args.page (c.requires.row ∙ c.requires.at)
+    let s = c.args.row.now.version in
+    sym c.leaf.ensures.parts.depth
+    ∙ leaf_says c.ranges_align.ensures.pages s c.args.row.now.update c.args.page _ (page_pos s.page_size c.stands.ensures.version.page_size) refl
+    ∙ at_newest c.ranges_align.ensures.pages c.depth_counts_backs.ensures.newest s c.args.row.now.update c.args.page (c.requires.row ∙ c.requires.at)

@@ -5,7 +5,7 @@ use Rattle.tree_geom.proofs.Spans.{page_pos}
 use Rattle.range_log.specs.Depths.{depth_of}
 use Rattle.snapshot.specs.Versions.{HasNodeFor}
 use Rattle.range_reader.specs.Reading.{log_of}
-use Rattle.range_reader.proofs.Among.{in_rows}
+use Rattle.snapshot.proofs.Finding.{in_rows}
 use Rattle.range_reader.proofs.Walking.{InnerStep, InnerNode, page_of_range, page_step, larger, inner_node, halved, backs_join}
 use Rattle.range_reader.proofs.Stating.{page_depth, middle_page}
 use Rattle.range_reader.proofs.bound.+depths.Given.{Over}

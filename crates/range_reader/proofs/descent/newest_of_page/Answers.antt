@@ -6,7 +6,7 @@ use Rattle.range_log.specs.Laws.{ExtentsStand}
 use Rattle.range_log.specs.Walk.{LinksStep}
 use Rattle.snapshot.specs.Versions.{Version, RowIn, size_now, HasNodeFor, NodesLieIn, IsVersion}
 use Rattle.range_reader.specs.Reading.{log_of}
-use Rattle.range_reader.proofs.Among.{in_rows}
+use Rattle.snapshot.proofs.Finding.{in_rows}
 use Rattle.range_reader.proofs.Descending.{IsOver, over_at_root, over_below, newest_here, has_leaf}
 use Rattle.range_reader.proofs.descent.newest_of_page.Goals as goal
 

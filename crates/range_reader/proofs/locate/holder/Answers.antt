@@ -6,7 +6,8 @@ use Rattle.range_log.specs.Visits.{backs_of}
 use Rattle.snapshot.specs.Versions.{Version, size_now}
 use Rattle.tree_geom.proofs.Spans.{page_pos}
 use Rattle.range_reader.specs.Reading.{falls}
-use Rattle.range_reader.proofs.Among.{in_rows, page_in}
+use Rattle.snapshot.proofs.Finding.{in_rows}
+use Rattle.range_reader.proofs.Among.{page_in}
 use Rattle.range_reader.proofs.Leaves.{leaf_of_version}
 use Rattle.range_reader.proofs.Walking.{down}
 use Rattle.range_reader.proofs.Holding.{piece_stands}

@@ -1,24 +1,22 @@
-use Rattle.std.proofs.Common.{◌≡◌, ◌+◌, ◌/◌, ◌^◌, ap, sym, ◌∙◌, true, false}
-use Rattle.tree_geom.specs.Nodes.{is_leaf}
-use Rattle.range_reader.specs.Reading.{falls}
-use Rattle.range_reader.proofs.Descending.{page_some, inner_node, left_toward, right_toward}
+use Rattle.std.proofs.Common.{◌+◌, ◌/◌, ◌^◌, ap, ◌∙◌}
+use Rattle.range_log.specs.Log.{newest_of}
+use Rattle.range_reader.specs.Reading.{log_of}
+use Rattle.range_reader.proofs.Descending.{page_some, inner_size, low_half, high_half}
 use Rattle.range_reader.proofs.source.link_toward.Goals as goal
+
+pub links-requires-clause-inner : goal.links-requires-clause-inner
+links-requires-clause-inner g c =
+    let p = c.args.row.now.version.page_size in
+    inner_size p c.args.height (page_some p (2 ^ (c.args.height + 1)) c.requires.has.met.2)
 
 pub returns-then-number-eq0-clause-link : goal.returns-then-number-eq0-clause-link
 returns-then-number-eq0-clause-link g c =
     let s = c.args.row.now.version in
-    left_toward s.page_size c.args.height c.args.page c.args.row.now.update (falls s) _ (page_some s.page_size (2 ^ (c.args.height + 1)) c.requires.has.met.2) c.in-Inner.ensures.node c.ranges_align.ensures.low c.if-number-eq0.true
+    c.links.ensures.left
+    ∙ ap (newest_of s.page_size (log_of s) c.args.row.now.update) (low_half c.ranges_align.ensures.low s.page_size c.args.height c.args.page c.if-number-eq0.true)
 
 pub returns-clause-link : goal.returns-clause-link
 returns-clause-link g c =
     let s = c.args.row.now.version in
-    right_toward s.page_size c.args.height c.args.page c.args.row.now.update (falls s) _ (page_some s.page_size (2 ^ (c.args.height + 1)) c.requires.has.met.2) c.in-Inner.ensures.node c.ranges_align.ensures.high c.if-number-eq0.false
-
-pub unreachable-requires : goal.unreachable-requires
-unreachable-requires g c =
-    let s = c.args.row.now.version in
-    let h = c.args.height in
-    let pos = page_some s.page_size (2 ^ (h + 1)) c.requires.has.met.2 in
-    let inner = sym c.in_default.is ∙ c.node_in.ensures.node ∙ inner_node s.page_size h (c.args.page / 2 ^ (h + 1)) c.args.row.now.update (falls s) pos in
-    let no : true ≡ false = ap is_leaf inner in
-    cc
+    c.links.ensures.right
+    ∙ ap (newest_of s.page_size (log_of s) c.args.row.now.update) (high_half c.ranges_align.ensures.high s.page_size c.args.height c.args.page c.if-number-eq0.false)
