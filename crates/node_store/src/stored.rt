@@ -64,7 +64,9 @@ impl Links {
     #[inline(always)]
     pub(crate) fn stands(&self)
         ensures { is_leaf self.now ≡ false }
-    {}
+    {
+        let _left = self.left;
+    }
 }
 
 /// A leaf whose back is below 2^32, and whose second piece, if it has one, begins the stored page after that of the first.
@@ -165,7 +167,9 @@ impl PlainLeaf {
     #[inline(always)]
     pub(crate) fn stands(&self)
         ensures { is_leaf self.now ≡ true }
-    {}
+    {
+        let _start = self.start;
+    }
 
     /// Its parts.
     #[inline(always)]
