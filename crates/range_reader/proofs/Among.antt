@@ -3,7 +3,6 @@ use Rattle.std.proofs.Common.{◌≡◌, ℕ, zero, suc, ◌≤◌, List, length
 use Rattle.std.specs.Prelude.{Some, All, slice_get}
 use Rattle.std.proofs.lemmas.List.{length-map}
 use Rattle.std.proofs.lemmas.Option.{slice_get_within, get_or_from_slice_get}
-use Rattle.tree_geom.specs.declared.range.Range.{Range}
 use Rattle.page_store.specs.House.{House}
 use Rattle.page_store.specs.Page.{IsAmong}
 use Rattle.page_store.specs.Stored.{Stored, LieAmong}

@@ -1,18 +1,12 @@
 -- The way down to a page, by the heights and numbers of the ranges over it.
-use Rattle.std.proofs.Common.{◌≡◌, ◌≢◌, ◌⊎◌, ℕ, zero, suc, ◌+◌, ◌*◌, ◌/◌, ◌%◌, ◌^◌, ◌<◌, ◌≤◌, List, length, arith, refl, ap, sym, ◌∙◌, subst, inl, inr, false}
-use Rattle.std.specs.Prelude.{◌==◌}
+use Rattle.std.proofs.Common.{◌≡◌, ◌≢◌, ◌⊎◌, ℕ, zero, suc, ◌+◌, ◌*◌, ◌/◌, ◌%◌, ◌^◌, ◌<◌, ◌≤◌, length, arith, refl, ap, sym, ◌∙◌, subst, inl, inr}
 use Rattle.std.proofs.lemmas.Bool.{cases_lt}
-use Rattle.std.proofs.lemmas.Bool.Decides.{nat_tests}
 use Rattle.std.proofs.lemmas.Nat.{mul-le, pow_pos, div_below, shr-shr}
 use Rattle.std.proofs.Math.Nat.{mul-div_cancel}
-use Rattle.tree_geom.specs.declared.node.Node.{Node}
 use Rattle.tree_geom.specs.declared.range.Range.{Range}
 use Rattle.tree_geom.specs.Geometry.{tree_range, page_range, left_half, right_half, height_of}
 use Rattle.tree_geom.specs.Laws.{HeightsHold, PagesAlign, LowHalvesAlign, HighHalvesAlign}
-use Rattle.tree_geom.specs.Nodes.{left_link, right_link}
 use Rattle.range_log.specs.Log.{newest_of}
-use Rattle.range_log.specs.Extents.{Extent, touches}
-use Rattle.range_log.specs.Rows.{node_of, inner_of}
 use Rattle.range_log.specs.Laws.{NewestIsGreatest, ExtentsStand}
 use Rattle.range_log.specs.Walk.{RootsStand, LinksStep}
 use Rattle.snapshot.specs.Versions.{Version, size_now, root_key, HasNodeFor, IsVersion}
