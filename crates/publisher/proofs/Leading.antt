@@ -44,23 +44,30 @@ leading_more [] e = refl
 leading_more (None ∷ xs) e = refl
 leading_more (Some r ∷ xs) e = absurd (none_leads r (leading xs) e)
 
--- what leads where the next slot isn't empty
-pub slot_leads : {A : Type 0} (view : A → UpdateRow) (xs : List (Option A)) (i : ℕ) (x : Option A) (a : A) → i < length xs → x ≡ get_or xs i x → x ≡ Some a
-    → leading (map (option_map view) (drop i xs)) ≡ view a ∷ leading (map (option_map view) (drop (i + 1) xs))
-slot_leads {A} view xs i x a lt at is =
-    let F : List (Option A) → List UpdateRow = λ l. leading (map (option_map view) l) in
-    ap F (drop_more xs i x lt) ∙ ap (λ (o : Option A). F (o ∷ drop (i + 1) xs)) (sym at ∙ is)
+-- what leads where the next slot has its row
+pub slot_leads : {A : Type 0} (row : A → Option UpdateRow) (xs : List A) (i : ℕ) (x : A) (r : UpdateRow) → i < length xs → x ≡ get_or xs i x → row x ≡ Some r
+    → leading (map row (drop i xs)) ≡ r ∷ leading (map row (drop (i + 1) xs))
+slot_leads {A} row xs i x r lt at is =
+    let rest : List (Option UpdateRow) = map row (drop (i + 1) xs) in
+    ap (λ (l : List A). leading (map row l)) (drop_more xs i x lt) ∙ ap (λ (o : Option UpdateRow). leading (o ∷ rest)) (ap row (sym at) ∙ is)
 
--- nothing leads where there is no first slot, or it is empty
-pub none_there : {A : Type 0} (view : A → UpdateRow) (xs : List (Option A)) → length xs ≡ 0 → leading (map (option_map view) xs) ≡ []
-none_there view [] e = refl
-none_there view (x ∷ xs) e = absurd (omega arith)
+-- nothing leads where there is no first slot, or it has no row
+pub none_there : {A : Type 0} (row : A → Option UpdateRow) (xs : List A) → length xs ≡ 0 → leading (map row xs) ≡ []
+none_there row [] e = refl
+none_there row (x ∷ xs) e = absurd (omega arith)
 
-pub first_leads : {A : Type 0} (view : A → UpdateRow) (xs : List (Option A)) (x : Option A) (there : Bool) → x ≡ get_or xs 0 x → there ≡ is_some x → OnFalse there (leading (map (option_map view) xs) ≡ [])
-first_leads view xs x true at is = tt
-first_leads view [] x false at is = refl
-first_leads view (None ∷ xs) x false at is = refl
-first_leads view (Some a ∷ xs) x false at is = absurd (true≢false (sym (ap is_some at) ∙ sym is))
+no_first : (o : Option UpdateRow) (rest : List (Option UpdateRow)) → is_some o ≡ false → leading (o ∷ rest) ≡ []
+no_first None rest e = refl
+no_first (Some r) rest e = absurd (true≢false e)
+
+pub first_leads : {A : Type 0} (row : A → Option UpdateRow) (xs : List A) (x : A) (there : Bool) → x ≡ get_or xs 0 x → there ≡ is_some (row x) → OnFalse there (leading (map row xs) ≡ [])
+first_leads row xs x true at is = tt
+first_leads row [] x false at is = refl
+first_leads row (y ∷ xs) x false at is = no_first (row y) (map row xs) (ap (λ z. is_some (row z)) (sym at) ∙ sym is)
+
+pub some_seen : {A B : Type 0} (view : A → B) (x : Option A) → is_some (option_map view x) ≡ is_some x
+some_seen view None = refl
+some_seen view (Some a) = refl
 
 -- the slot of the least unfinished update is empty
 pub first_missing : (xs : List (Option UpdateRow)) → leading xs ≡ [] → 0 < length xs → xs ≡ None ∷ drop 1 xs

@@ -1,5 +1,6 @@
 -- What a window is, by how it is kept.
-use Rattle.std.proofs.Common.{◌≡◌, ℕ, suc, ◌+◌, ◌-◌, ◌<◌, ◌≤◌, List, [], ◌∷◌, ◌++◌, length, take, drop, map, is_some, option_map, Option, None, Some, true, false, arith, refl, ap, sym, ◌∙◌, subst, get_or, set, length-append, length-drop, take-append-drop}
+use Rattle.std.proofs.Common.{◌≡◌, ℕ, suc, ◌+◌, ◌-◌, ◌<◌, ◌≤◌, List, [], ◌∷◌, ◌++◌, length, take, drop, map, is_some, Option, None, Some, true, false, true≢false, arith, inl, inr, ap, sym, ◌∙◌, subst, get_or, set, length-append, length-drop, take-append-drop}
+use Rattle.std.proofs.lemmas.Bool.{cases_lt}
 use Rattle.std.proofs.lemmas.List.{append_assoc, append-nil, length-map, length-set, map-append, drop-map, get_or-map, get_or_append_left, set-append_right}
 use Rattle.std.proofs.Math.Seq.{drop-append_seam, get_or-append-add, set-append_seam, take-length}
 use Rattle.blob_model.specs.Content.{Update}
@@ -11,7 +12,7 @@ use Rattle.range_log.specs.Log.{touch_at}
 use Rattle.node_store.specs.UpdateRows.{UpdateRow}
 use Rattle.snapshot.specs.Versions.{Version, no_row, IsRowOf}
 use Rattle.snapshot.specs.Laws.{AreRowsOf}
-use Rattle.publisher.specs.Windows.{Numbered, leading, is_finished, published_of, version_of, waiting_of, opens_from, with_finished, WindowHolds, IsRowIn}
+use Rattle.publisher.specs.Windows.{Numbered, WindowState, leading, is_finished, published_of, version_of, waiting_of, opens_from, with_finished, WindowHolds, IsRowIn}
 use Rattle.publisher.specs.WindowInvariant.{present, row_touches, open_touches, over, KeepsWindow, Ready}
 use Rattle.publisher.proofs.Leading.{leading_over, published_counts, present_drop, leading_rest, leading_set, leading_more, first_missing, touches_match}
 use Rattle.publisher.proofs.Opens.{open_as, opens_drop, opens_push, opens_at}
@@ -29,8 +30,8 @@ module _ (s : Version) (opens : List OpenTouch) (above : List (Option UpdateRow)
       let made : List UpdateRow → Version = λ l. record { blob = s.blob; page_size = s.page_size; rows = l } in
       ap made (sym (rows_are least))
 
-  pub waiting_is : (room : ℕ) → KeepsWindow s opens above room → opens ≡ waiting_of (over s opens above)
-  waiting_is room kept =
+  pub waiting_is : KeepsWindow s opens above → opens ≡ waiting_of (over s opens above)
+  waiting_is kept =
       let log : List Touch = row_touches s.rows ++ open_touches opens in
       let count : length (row_touches s.rows) ≡ length s.rows = length-map s.rows (λ (row : UpdateRow). row.touch) in
       let rest : drop (length s.rows) log ≡ open_touches opens = ap (λ n. drop n log) (sym count) ∙ drop-append_seam (row_touches s.rows) (open_touches opens) in
@@ -42,15 +43,15 @@ module _ (s : Version) (opens : List OpenTouch) (above : List (Option UpdateRow)
   pub log_count : length (over s opens above).log ≡ length s.rows + length opens
   log_count = omega (arith, length-append (row_touches s.rows) (open_touches opens), length-map s.rows (λ (r : UpdateRow). r.touch), length-map opens (λ (o : OpenTouch). o.touch))
 
-  pub open_version : (room : ℕ) → KeepsWindow s opens above room → (i : ℕ) → i < length opens → (get_or opens i no_open).version ≡ length s.rows + 1 + i
-  open_version room kept i lt =
+  pub open_version : KeepsWindow s opens above → (i : ℕ) → i < length opens → (get_or opens i no_open).version ≡ length s.rows + 1 + i
+  open_version kept i lt =
       let V : List OpenTouch → ℕ = λ l. (get_or l i no_open).version in
       ap V kept.versions ∙ opens_at (length s.rows + 1) (open_touches opens) i (omega (arith, length-map opens (λ (o : OpenTouch). o.touch)))
 
   -- one update more
-  pub keeps_numbered : (room version : ℕ) (touch : Touch) → KeepsWindow s opens above room → version ≡ length s.rows + length opens + 1 → length opens < 64 → length s.rows + length opens < 1048576
-      → KeepsWindow s (opens ++ open_as version touch ∷ []) (above ++ None ∷ []) room
-  keeps_numbered room version touch kept is few counted =
+  pub keeps_numbered : (version : ℕ) (touch : Touch) → KeepsWindow s opens above → version ≡ length s.rows + length opens + 1 → length opens < 64 → length s.rows + length opens < 1048576
+      → KeepsWindow s (opens ++ open_as version touch ∷ []) (above ++ None ∷ [])
+  keeps_numbered version touch kept is few counted =
       let ts : List Touch = open_touches opens in
       let T : OpenTouch → Touch = λ o. o.touch in
       let a : length (above ++ None ∷ []) ≡ length above + 1 = length-append above (None ∷ []) in
@@ -59,7 +60,6 @@ module _ (s : Version) (opens : List OpenTouch) (above : List (Option UpdateRow)
       record {
         paired = omega (arith, kept.paired);
         few = omega (arith, kept.paired);
-        reserved = kept.reserved;
         versions =
             ap (λ l. l ++ open_as version touch ∷ []) kept.versions
             ∙ sym (opens_push (length s.rows + 1) version ts touch next)
@@ -69,7 +69,7 @@ module _ (s : Version) (opens : List OpenTouch) (above : List (Option UpdateRow)
       }
 
 -- the published version moves on over a finished row and those after it
-module _ (s : Version) (opens : List OpenTouch) (above : List (Option UpdateRow)) (room version : ℕ) (row : UpdateRow) where
+module _ (s : Version) (opens : List OpenTouch) (above : List (Option UpdateRow)) (version : ℕ) (row : UpdateRow) where
   -- the rows that become published, and how many there are
   abbrev pub moved : List UpdateRow
   moved = row ∷ leading (drop 1 above)
@@ -80,7 +80,7 @@ module _ (s : Version) (opens : List OpenTouch) (above : List (Option UpdateRow)
   abbrev pub after : Version
   after = record s { rows = s.rows ++ moved }
 
-  module _ (kept : KeepsWindow s opens above room) (next : version ≡ length s.rows + 1) (waits : 0 < length above) where
+  module _ (kept : KeepsWindow s opens above) (next : version ≡ length s.rows + 1) (waits : 0 < length above) where
     place_is : above ≡ None ∷ drop 1 above
     place_is = first_missing above kept.least waits
 
@@ -175,7 +175,7 @@ module _ (s : Version) (opens : List OpenTouch) (above : List (Option UpdateRow)
           ap (λ log. made log (present (s.rows ++ moved) ++ drop passed above)) log_moved
           ∙ ap (made (row_touches s.rows ++ open_touches opens)) rows_moved
 
-      pub keeps_moved : KeepsWindow after (drop passed opens) (drop passed above) room
+      pub keeps_moved : KeepsWindow after (drop passed opens) (drop passed above)
       keeps_moved =
           let m : ℕ = passed in
           let ts : List Touch = open_touches opens in
@@ -185,7 +185,6 @@ module _ (s : Version) (opens : List OpenTouch) (above : List (Option UpdateRow)
           record {
             paired = omega (arith, kept.paired);
             few = omega (arith, kept.few);
-            reserved = kept.reserved;
             versions =
                 ap (drop m) kept.versions
                 ∙ opens_drop (length s.rows + 1) ts m
@@ -216,17 +215,19 @@ module _ (s : Version) (opens : List OpenTouch) where
       ∙ ap (λ n. is_some (get_or (rows ++ above) n None)) at
       ∙ ap is_some (get_or-append-add rows above slot None)
 
-  some_seen : {A : Type 0} (view : A → UpdateRow) (x : Option A) → is_some (option_map view x) ≡ is_some x
-  some_seen view None = refl
-  some_seen view (Some a) = refl
+  pub finished_read : {A : Type 0} (row : A → Option UpdateRow) (items : List A) (version slot : ℕ) (x : A) → version ≡ length s.rows + slot + 1 → slot < length items → x ≡ get_or items slot x
+      → is_finished (over s opens (map row items)) version ≡ is_some (row x)
+  finished_read row items version slot x is lt at =
+      finished_above (map row items) version slot is (omega (arith, length-map items row))
+      ∙ ap is_some (get_or-map row items slot x None lt)
+      ∙ ap (λ y. is_some (row y)) (sym at)
 
-  pub finished_read : {A : Type 0} (view : A → UpdateRow) (items : List (Option A)) (version slot : ℕ) (x : Option A) → version ≡ length s.rows + slot + 1 → slot < length items → x ≡ get_or items slot x
-      → is_finished (over s opens (map (option_map view) items)) version ≡ is_some x
-  finished_read view items version slot x is lt at =
-      finished_above (map (option_map view) items) version slot is (omega (arith, length-map items (option_map view)))
-      ∙ ap is_some (get_or-map (option_map view) items slot x None lt)
-      ∙ some_seen view (get_or items slot x)
-      ∙ ap is_some (sym at)
+  -- an unfinished version waits
+  pub unfinished_waits : (above : List (Option UpdateRow)) (version : ℕ) → 1 ≤ version → is_finished (over s opens above) version ≡ false → length s.rows < version
+  unfinished_waits above version some e = elim (cases_lt (length s.rows) version) [
+    | inl lt ↦ lt
+    | inr le ↦ absurd (true≢false (sym (finished_below above version some le) ∙ e))
+  ]
 
   -- a row is kept above an unfinished version
   pub over_kept : (above : List (Option UpdateRow)) (version slot : ℕ) (row : UpdateRow) → version ≡ length s.rows + slot + 1 → over s opens (set above slot (Some row)) ≡ with_finished (over s opens above) version row
@@ -237,14 +238,13 @@ module _ (s : Version) (opens : List OpenTouch) where
       ap made (ap (λ n. present s.rows ++ set above n (Some row)) (sym at) ∙ sym (set-append_right (present s.rows) above (length s.rows) (version - 1) (Some row) count (omega arith)))
 
   -- the window stands with a row above the least missing one
-  pub keeps_set : (above : List (Option UpdateRow)) (room slot : ℕ) (row : UpdateRow) → KeepsWindow s opens above room → 0 < slot
-      → KeepsWindow s opens (set above slot (Some row)) room
-  keeps_set above room slot row kept some =
+  pub keeps_set : (above : List (Option UpdateRow)) (slot : ℕ) (row : UpdateRow) → KeepsWindow s opens above → 0 < slot
+      → KeepsWindow s opens (set above slot (Some row))
+  keeps_set above slot row kept some =
       let same : length (set above slot (Some row)) ≡ length above = length-set above slot (Some row) in
       record {
         paired = same ∙ kept.paired;
         few = omega (arith, kept.few);
-        reserved = kept.reserved;
         versions = kept.versions;
         least = leading_set above slot (Some row) kept.least some;
         counted = kept.counted;
@@ -256,43 +256,71 @@ module _ (s : Version) (opens : List OpenTouch) where
       sym (published_is s opens (set above slot (Some row)) (leading_set above slot (Some row) least some)) ∙ ap published_of (over_kept above version slot row is)
 
 -- the slots after the first one
-pub tail_is : {A : Type 0} (view : A → UpdateRow) (items read : List (Option A)) → read ≡ items → map (option_map view) (take (length read - 1) (drop 1 read)) ≡ drop 1 (map (option_map view) items)
-tail_is {A} view items read e =
+pub tail_is : {A : Type 0} (row : A → Option UpdateRow) (items read : List A) → read ≡ items → map row (take (length read - 1) (drop 1 read)) ≡ drop 1 (map row items)
+tail_is {A} row items read e =
     let count : length read - 1 ≡ length (drop 1 read) = sym (length-drop 1 read) in
-    ap (λ n. map (option_map view) (take n (drop 1 read))) count
-    ∙ ap (map (option_map view)) (take-length (drop 1 read))
-    ∙ ap (λ (l : List (Option A)). map (option_map view) (drop 1 l)) e
-    ∙ sym (drop-map (option_map view) 1 items)
+    ap (λ n. map row (take n (drop 1 read))) count
+    ∙ ap (map row) (take-length (drop 1 read))
+    ∙ ap (λ (l : List A). map row (drop 1 l)) e
+    ∙ sym (drop-map row 1 items)
+
+-- ---- the window that a clause sees
+pub told : {U : Type 0} {a b : WindowState U} → a ≡ b → a.numbered ≡ b.numbered
+told {U} e = ap (λ (x : WindowState U). x.numbered) e
+
+-- how many versions are published, and how many are numbered
+pub record Counts (s : Version) (opens : List OpenTouch) (w : Numbered) : Type 0 where
+  pub published : published_of w ≡ length s.rows
+  pub assigned : length w.log ≡ length s.rows + length opens
+
+pub counts : (s : Version) (opens : List OpenTouch) (above : List (Option UpdateRow)) (w : Numbered) → over s opens above ≡ w → KeepsWindow s opens above → Counts s opens w
+counts s opens above w is kept = record {
+  published = sym (ap published_of is) ∙ published_is s opens above kept.least;
+  assigned = sym (ap (λ (x : Numbered). length x.log) is) ∙ log_count s opens above;
+}
+
+-- an unfinished version has its slot
+pub record IsPlaced (s : Version) (above : List (Option UpdateRow)) (version slot : ℕ) : Type 0 where
+  pub waits : length s.rows < version
+  pub is : version ≡ length s.rows + slot + 1
+  pub within : slot < length above
+
+pub placed : (s : Version) (opens : List OpenTouch) (above : List (Option UpdateRow)) (w : Numbered) (version published : ℕ) → over s opens above ≡ w → KeepsWindow s opens above
+    → (1 ≤ version) × (version ≤ length w.log) → is_finished w version ≡ false → published ≡ length s.rows → IsPlaced s above version (version - published - 1)
+placed s opens above w version published is kept numbered unfinished count =
+    let c = counts s opens above w is kept in
+    let waits = unfinished_waits s opens above version numbered.0 (ap (λ x. is_finished x version) is ∙ unfinished) in
+    record { waits = waits; is = omega (arith, waits, count); within = omega (arith, waits, count, c.assigned, numbered.1, kept.paired) }
 
 -- the window after its published version moved on
-pub record HasMoved (s new : Version) (opens : List OpenTouch) (above : List (Option UpdateRow)) (room count : ℕ) (to : Numbered) : Type 0 where
+pub record HasMoved (s new : Version) (opens : List OpenTouch) (above : List (Option UpdateRow)) (count : ℕ) (to : Numbered) : Type 0 where
   pub few : count ≤ length above
-  pub keeps : KeepsWindow new (drop count opens) (drop count above) room
+  pub keeps : KeepsWindow new (drop count opens) (drop count above)
   pub view : over new (drop count opens) (drop count above) ≡ to
   pub published : length new.rows ≡ published_of to
 
-pub has_moved : (s new : Version) (opens : List OpenTouch) (above tail : List (Option UpdateRow)) (room version count : ℕ) (row : UpdateRow)
-    → KeepsWindow s opens above room → version ≡ length s.rows + 1 → 0 < length above → IsRowIn (over s opens above) version row → tail ≡ drop 1 above
+pub has_moved : (s new : Version) (opens : List OpenTouch) (above tail : List (Option UpdateRow)) (version count : ℕ) (row : UpdateRow)
+    → KeepsWindow s opens above → version ≡ length s.rows + 1 → 0 < length above → IsRowIn (over s opens above) version row → tail ≡ drop 1 above
     → new.blob ≡ s.blob → new.page_size ≡ s.page_size → new.rows ≡ s.rows ++ row ∷ leading tail → count ≡ length new.rows - length s.rows
-    → HasMoved s new opens above room count (with_finished (over s opens above) version row)
-has_moved s new opens above tail room version count row kept next waits own e blob page_size rows counts =
-    let goes : List UpdateRow = moved s opens above room version row in
-    let m : ℕ = passed s opens above room version row in
+    → HasMoved s new opens above count (with_finished (over s opens above) version row)
+has_moved s new opens above tail version count row kept next waits own e blob page_size rows counts =
+    let goes : List UpdateRow = moved s opens above version row in
+    let m : ℕ = passed s opens above version row in
     let made : ℕ → ℕ → List UpdateRow → Version = λ b p l. record { blob = b; page_size = p; rows = l } in
     let all : new.rows ≡ s.rows ++ goes = rows ∙ ap (λ l. s.rows ++ row ∷ leading l) e in
-    let new_is : new ≡ after s opens above room version row =
+    let new_is : new ≡ after s opens above version row =
     ap (λ b. made b new.page_size new.rows) blob ∙ ap (λ p. made s.blob p new.rows) page_size ∙ ap (made s.blob s.page_size) all in
     let long : length new.rows ≡ length s.rows + m = ap length all ∙ length-append s.rows goes in
     let count_is : count ≡ m = omega arith in
     let to : Numbered = with_finished (over s opens above) version row in
-    let P : Version → Type 0 = λ v. HasMoved s v opens above room count to in
-    let Q : ℕ → Type 0 = λ n. HasMoved s (after s opens above room version row) opens above room n to in
-    let keeps = keeps_moved s opens above room version row kept next waits own.0 own.1 own.2 in
-    let view = over_moved s opens above room version row kept next waits own.0 own.1 own.2 in
+    let P : Version → Type 0 = λ v. HasMoved s v opens above count to in
+    let Q : ℕ → Type 0 = λ n. HasMoved s (after s opens above version row) opens above n to in
+    let keeps = keeps_moved s opens above version row kept next waits own.0 own.1 own.2 in
+    let view = over_moved s opens above version row kept next waits own.0 own.1 own.2 in
     let here : Q m = record {
-      few = few_moved s opens above room version row kept next waits own.0 own.1 own.2;
+      few = few_moved s opens above version row kept next waits own.0 own.1 own.2;
       keeps = keeps;
       view = view;
-      published = sym (published_is (after s opens above room version row) (drop m opens) (drop m above) keeps.least) ∙ ap published_of view;
+      published = sym (published_is (after s opens above version row) (drop m opens) (drop m above) keeps.least) ∙ ap published_of view;
     } in
     subst P (sym new_is) (subst Q (sym count_is) here)

@@ -1,5 +1,6 @@
 -- How a window keeps what it stands for: the published version, and the touches and rows above it.
-use Rattle.std.specs.Prelude.{◌≡◌, ℕ, ◌+◌, ◌^◌, ◌≤◌, List, [], ◌++◌, length, map, Option, Some}
+use Rattle.std.specs.Prelude.{◌≡◌, ℕ, ◌+◌, ◌^◌, ◌≤◌, List, [], ◌++◌, length, map, Option, Some, option_map}
+use Rattle.std.specs.Arc.{arc_value}
 use Rattle.blob_model.specs.Content.{Update, size_of}
 use Rattle.tree_geom.specs.declared.touch.Touch.{Touch}
 use Rattle.range_log.specs.declared.open.OpenTouch.{OpenTouch}
@@ -7,7 +8,16 @@ use Rattle.range_log.specs.Updates.{Replayable}
 use Rattle.node_store.specs.UpdateRows.{UpdateRow}
 use Rattle.snapshot.specs.Versions.{Version}
 use Rattle.snapshot.specs.Laws.{AreRowsOf}
+use Rattle.publisher.specs.declared.slot.Slot.{Slot}
 use Rattle.publisher.specs.Windows.{Numbered, leading, opens_from}
+
+-- the row in a slot, where its update is finished
+abbrev pub row_in : {U : Type 0} → Slot U → Option UpdateRow
+row_in slot = option_map arc_value slot.row
+
+-- what was given with the update of a slot
+abbrev pub update_in : {U : Type 0} → Slot U → U
+update_in slot = slot.update
 
 -- what rows touch
 abbrev pub row_touches : List UpdateRow → List Touch
@@ -30,11 +40,10 @@ over s opens above = record {
   rows = present s.rows ++ above;
 }
 
--- there is a slot for the row of each waiting update, the versions go on from the published one, and the least of them is unfinished
-pub record KeepsWindow (s : Version) (opens : List OpenTouch) (above : List (Option UpdateRow)) (room : ℕ) : Type 0 where
+-- there is a slot for each waiting update, the versions go on from the published one, and the least of them is unfinished
+pub record KeepsWindow (s : Version) (opens : List OpenTouch) (above : List (Option UpdateRow)) : Type 0 where
   pub paired : length above ≡ length opens
   pub few : length above ≤ 64
-  pub reserved : 64 ≤ room
   pub versions : opens ≡ opens_from (length s.rows + 1) (open_touches opens)
   pub least : leading above ≡ []
   pub counted : length s.rows + length opens ≤ 1048576

@@ -16,6 +16,11 @@ pub record Numbered : Type 0 where
   pub log : List Touch
   pub rows : List (Option UpdateRow)
 
+-- a window: the numbered updates, and what was given with each of those that wait, the least version first
+pub record WindowState (U : Type 0) : Type 0 where
+  pub numbered : Numbered
+  pub updates : List U
+
 -- ---- what is finished and what is published
 -- which of the numbered updates are finished
 abbrev pub finished_of : Numbered → List Bool

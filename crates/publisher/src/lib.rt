@@ -3,6 +3,7 @@
 
 pub mod laws;
 mod moving;
+mod slot;
 mod window;
 
 pub use node_store::NoMemory;

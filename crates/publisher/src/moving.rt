@@ -1,26 +1,27 @@
 // How the published version moves on over finished updates.
-ghost use Rattle.std.specs.Prelude.{◌≡◌, ◌+◌, ◌≤◌, ◌++◌, [], ◌∷◌, length, drop, map, option_map, vec_len, vec_capacity, IfOk, IfErr};
+ghost use Rattle.std.specs.Prelude.{◌≡◌, ◌++◌, [], ◌∷◌, map, IfOk, IfErr};
 ghost use Rattle.std.specs.Arc.{arc_value};
 ghost use Rattle.std.specs.Bool.{OnFalse};
 ghost use Rattle.snapshot.specs.Versions.{next_version};
 ghost use Rattle.publisher.specs.Windows.{leading};
-ghost use Rattle.publisher.specs.WindowInvariant.{Ready};
+ghost use Rattle.publisher.specs.WindowInvariant.{Ready, row_in};
 
+use crate::slot::Slot;
 use node_store::{NoMemory, Row};
 use snapshot::{Snapshot, laws};
 use std::sync::Arc;
 
-/// The version after that one and after the rows that stand next above it, none of which is missing. The row itself goes into it,
-/// where none waits next above. Where memory is refused, the row comes back.
-pub(crate) fn moved_on(
+/// The version after that one and after the rows of these slots that stand next above it, none of which is missing. The row itself
+/// goes into it, where none waits next above. Where memory is refused, the row comes back.
+pub(crate) fn moved_on<U>(
     base: &Snapshot,
     row: Arc<Row>,
-    above: &[Option<Arc<Row>>],
+    above: &[Slot<U>],
 ) -> Result<Snapshot, Arc<Row>>
-    requires { Ready base.now.page_size (base.now.rows ++ arc_value row ∷ leading (map (option_map arc_value) above.now)) }
+    requires { Ready base.now.page_size (base.now.rows ++ arc_value row ∷ leading (map row_in above.now)) }
     ensures blob { IfOk result (λ s. s.blob ≡ base.now.blob) }
     ensures page_size { IfOk result (λ s. s.page_size ≡ base.now.page_size) }
-    ensures rows { IfOk result (λ s. s.rows ≡ base.now.rows ++ arc_value row ∷ leading (map (option_map arc_value) above.now)) }
+    ensures rows { IfOk result (λ s. s.rows ≡ base.now.rows ++ arc_value row ∷ leading (map row_in above.now)) }
     ensures same { IfErr result (λ back. back ≡ row) }
 {
     if !leads(above) {
@@ -32,30 +33,26 @@ pub(crate) fn moved_on(
     }
 }
 
-// Whether the first of these rows is there.
-fn leads(above: &[Option<Arc<Row>>]) -> bool
-    ensures { OnFalse result (leading (map (option_map arc_value) above.now) ≡ []) }
+// Whether the first of these slots has its row.
+fn leads<U>(above: &[Slot<U>]) -> bool
+    ensures { OnFalse result (leading (map row_in above.now) ≡ []) }
 {
     if above.is_empty() {
         return false;
     }
-    above[0].is_some()
+    above[0].row.is_some()
 }
 
 // The version after that one and after all rows that lead.
-fn moved_past(
-    base: &Snapshot,
-    row: &Arc<Row>,
-    above: &[Option<Arc<Row>>],
-) -> Result<Snapshot, NoMemory>
-    requires { Ready base.now.page_size (base.now.rows ++ arc_value row.now ∷ leading (map (option_map arc_value) above.now)) }
+fn moved_past<U>(base: &Snapshot, row: &Arc<Row>, above: &[Slot<U>]) -> Result<Snapshot, NoMemory>
+    requires { Ready base.now.page_size (base.now.rows ++ arc_value row.now ∷ leading (map row_in above.now)) }
     ensures blob { IfOk result (λ s. s.blob ≡ base.now.blob) }
     ensures page_size { IfOk result (λ s. s.page_size ≡ base.now.page_size) }
-    ensures rows { IfOk result (λ s. s.rows ≡ base.now.rows ++ arc_value row.now ∷ leading (map (option_map arc_value) above.now)) }
+    ensures rows { IfOk result (λ s. s.rows ≡ base.now.rows ++ arc_value row.now ∷ leading (map row_in above.now)) }
 {
     let mut snapshot = with_shared(base, row)?;
     for slot in above {
-        match slot {
+        match &slot.row {
             Some(row) => snapshot = with_shared(&snapshot, row)?,
             None => return Ok(snapshot),
         }
@@ -83,15 +80,4 @@ fn with_next(snapshot: &Snapshot, row: Arc<Row>) -> Result<Snapshot, Arc<Row>>
     laws::rows_tell();
     snapshot.stands();
     snapshot.with_row(row)
-}
-
-/// Takes the first `n` slots away, of which there are that many. The room stays.
-pub(crate) fn drop_first(slots: &mut Vec<Option<Arc<Row>>>, n: usize)
-    requires { n ≤ vec_len slots.old }
-    ensures items { slots.new.items ≡ drop n slots.old.items }
-    ensures room { vec_capacity slots.new ≡ vec_capacity slots.old }
-{
-    let kept = slots.len() - n;
-    slots.rotate_left(n);
-    slots.truncate(kept);
 }

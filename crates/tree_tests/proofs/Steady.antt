@@ -18,7 +18,7 @@ use Rattle.snapshot.specs.Versions.{IsRowOf}
 use Rattle.snapshot.specs.Laws.{OwnRowsStay}
 use Rattle.border_hints.specs.Numbered.{NumberedUpdate, own_touch, IsValidTicket}
 use Rattle.tree_weaver.specs.Laws.{StoredRowsAreRows}
-use Rattle.publisher.specs.Windows.{Numbered, with_numbered, with_finished, WindowHolds}
+use Rattle.publisher.specs.Windows.{Numbered, WindowState, with_numbered, with_finished, WindowHolds}
 use Rattle.publisher.specs.Laws.{NumberedStands, FinishedStands}
 use Rattle.tree_tests.specs.Blobs.{OneBlob, IsOneBlob, IsRowIfAnyIn, Start, update_of, updates_in, IsTicketOf}
 use Rattle.tree_tests.proofs.Updates.{is_next, size_told}
@@ -81,10 +81,10 @@ own_row law stay b t row k is version offset touch pages nodes none_stored none_
     row_in_all stay b.window.page_size t.version us row (omega arith) (subst P k.page_size own)
 
 -- it was finished, or the window is as before
-pub finished_or_not : {A E : Type 0} (result : Result A E) (w old : Numbered) (version : ℕ) (row : UpdateRow) (Same : E → Type 0) → IfOk result (λ _. w ≡ with_finished old version row) → IfErr result (λ e. Same e × (w ≡ old))
-    → (w ≡ with_finished old version row) ⊎ (w ≡ old)
+pub finished_or_not : {A E U : Type 0} (result : Result A E) (w old : WindowState U) (version : ℕ) (row : UpdateRow) (Same : E → Type 0) → IfOk result (λ _. w.numbered ≡ with_finished old.numbered version row)
+    → IfErr result (λ e. Same e × (w ≡ old)) → (w.numbered ≡ with_finished old.numbered version row) ⊎ (w.numbered ≡ old.numbered)
 finished_or_not (Ok a) w old version row Same ok err = inl ok
-finished_or_not (Err e) w old version row Same ok err = inr err.1
+finished_or_not {U = U} (Err e) w old version row Same ok err = inr (ap (λ (x : WindowState U). x.numbered) err.1)
 
 pub is_counted : (b : OneBlob) → IsOneBlob b → length b.starts ≡ length b.window.log
 is_counted b is = sym (length-map b.starts update_of) ∙ is.stands.counted

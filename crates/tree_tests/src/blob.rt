@@ -61,7 +61,7 @@ impl Begun {
 #[derive(Drop)]
 pub struct Blob {
     nodes: NodeHouse,
-    window: Window,
+    window: Window<()>,
     touches: Vec<Touch>,
     begun: Vec<Begun>,
 }
@@ -71,9 +71,9 @@ impl Model for Blob {
 
     ghost Value = { OneBlob };
 
-    ghost view = { λ b. record { nodes = b.nodes; window = b.window; touches = b.touches.items; starts = b.begun.items } };
+    ghost view = { λ b. record { nodes = b.nodes; window = b.window.numbered; touches = b.touches.items; starts = b.begun.items } };
 
-    ghost invariant = { λ b. IsOneBlob (record { nodes = b.nodes; window = b.window; touches = b.touches.items; starts = b.begun.items }) };
+    ghost invariant = { λ b. IsOneBlob (record { nodes = b.nodes; window = b.window.numbered; touches = b.touches.items; starts = b.begun.items }) };
 }
 
 // The touches from number `from` to the one before `upto`, as those of waiting updates.
@@ -166,7 +166,7 @@ impl Blob {
     }
 
     /// The blob's window.
-    pub fn window(&self) -> &Window {
+    pub fn window(&self) -> &Window<()> {
         &self.window
     }
 
@@ -205,7 +205,10 @@ impl Blob {
         let touch = touched(p, at, len, size.max(at + len));
         self.touches.push_reserved(touch);
         self.begun.push_reserved(Begun { at, pages });
-        self.window.number(touch)
+        let Ok(version) = self.window.number(touch, ()) else {
+            panic!(rt; "memory");
+        };
+        version
     }
 
     /// Numbers the update of these bytes at byte `at`, and gives its version.

@@ -29,7 +29,7 @@ const SECOND: OpenTouch = OpenTouch {
 };
 
 // Whether just these updates wait.
-fn waits(window: &Window, want: &[OpenTouch]) -> bool {
+fn waits(window: &Window<()>, want: &[OpenTouch]) -> bool {
     let list = window.waiting();
     if list.count() as usize != want.len() {
         return false;
@@ -94,7 +94,7 @@ fn check_finish<R: Wait + Abort + AllocGlobal>(
 }
 
 // Checks that the snapshot of a published version is that version's and has so many bytes.
-fn check_size<R: Abort>(rt: &R, window: &Window, version: u64, want: u64) {
+fn check_size<R: Abort>(rt: &R, window: &Window<()>, version: u64, want: u64) {
     assert!(rt; version <= window.published(), "not published");
     let snapshot = window.snapshot_at(version).expect(rt, "memory");
     assert!(rt; snapshot.version() == version && snapshot.size() == want);

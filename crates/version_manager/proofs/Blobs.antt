@@ -110,16 +110,17 @@ module _ (limits : Bounds) (w : Numbered) (b : Blob) (k : Keeps limits w b) wher
     pub waiting_is : length (waiting_of w) ≡ waiting b
     waiting_is = omega (arith, waiting_count, assigned_is, published_is)
 
-    -- the size of the last waiting update
-    pub last_size : (i : ℕ) → i + 1 ≡ length (waiting_of w) → (open_at (waiting_of w) i).touch.size ≡ size_now b
-    last_size i last =
+    -- the size after a waiting update, and after the last
+    pub open_size : (i : ℕ) → i < length (waiting_of w) → (open_at (waiting_of w) i).touch.size ≡ size_of b.updates (suc (published_of w + i))
+    open_size i lt =
         let n : ℕ = published_of w in
         let S : Touch → ℕ = λ t. t.size in
-        let e : suc (n + i) ≡ length b.updates = omega (arith, waiting_count, published_few, k.stands.counted) in
-        ap S (opens_touch (n + 1) (drop n w.log) i)
-        ∙ ap S (get_or-drop n w.log i no_touch)
-        ∙ log_size (suc (n + i)) (omega arith)
-        ∙ ap (size_of b.updates) e
+        ap S (opens_touch (n + 1) (drop n w.log) i) ∙ ap S (get_or-drop n w.log i no_touch) ∙ log_size (suc (n + i)) (omega (arith, waiting_count, published_few, k.stands.counted))
+
+    pub last_size : (i : ℕ) → i + 1 ≡ length (waiting_of w) → (open_at (waiting_of w) i).touch.size ≡ size_now b
+    last_size i last =
+        let e : suc (published_of w + i) ≡ length b.updates = omega (arith, waiting_count, published_few, k.stands.counted) in
+        open_size i (omega arith) ∙ ap (size_of b.updates) e
 
     module _ (is : IsVersion (version_of w)) where
       page_some : 1 ≤ w.page_size

@@ -1,5 +1,5 @@
 -- The next update of a blob.
-use Rattle.std.proofs.Common.{◌≡◌, ℕ, suc, ◌+◌, ◌<◌, ◌≤◌, false, List, [], ◌∷◌, ◌++◌, length, take, drop, map, max, arith, refl, ap, sym, subst, inl, inr, ◌∙◌, None, is_some, length-append, take-append-drop}
+use Rattle.std.proofs.Common.{◌≡◌, ℕ, suc, ◌+◌, ◌≤◌, false, List, [], ◌∷◌, ◌++◌, length, take, drop, map, max, arith, refl, ap, sym, subst, inl, inr, ◌∙◌, None, is_some, length-append, take-append-drop}
 use Rattle.std.proofs.lemmas.Bool.{cases_lt}
 use Rattle.std.proofs.lemmas.List.{map-append}
 use Rattle.std.proofs.Math.Seq.{get_or-append_seam, take-length}
@@ -10,9 +10,8 @@ use Rattle.blob_model.specs.declared.call.Place.{Place}
 use Rattle.tree_geom.specs.declared.touch.Touch.{Touch}
 use Rattle.tree_geom.specs.Geometry.{touched_by}
 use Rattle.range_log.specs.declared.open.OpenTouch.{OpenTouch}
-use Rattle.range_log.specs.Log.{touch_at, size_at}
-use Rattle.range_log.specs.Extents.{Extent, IsLog, extent_at, size_after, touches}
-use Rattle.range_log.specs.Open.{open_at}
+use Rattle.range_log.specs.Log.{touch_at}
+use Rattle.range_log.specs.Extents.{Extent, extent_at, size_after, touches}
 use Rattle.range_log.specs.Updates.{no_update, extent_of, extents, Replayable}
 use Rattle.range_log.proofs.Bytes.{size_is, length-extents, extent_is, bounds_hold}
 use Rattle.range_log.proofs.Grown.{touch-touches}
@@ -29,8 +28,8 @@ use Rattle.publisher.proofs.Growing.{numbered_stands, log_published}
 use Rattle.range_log.proofs.Growth.{size_front, extent_of_front}
 use Rattle.version_manager.specs.Blobs.{Takes}
 use Rattle.version_manager.specs.DeskInvariant.{Keeps}
-use Rattle.version_manager.proofs.BlobsSizes.{prefix_more, opens_touches, opens_first}
-use Rattle.version_manager.proofs.Blobs.{leads, published_few, waiting_count, log_size}
+use Rattle.version_manager.proofs.BlobsSizes.{prefix_more, opens_touches}
+use Rattle.version_manager.proofs.Blobs.{leads}
 
 -- one update more, that begins within the size and has a byte
 module _ (us : List Update) (u : Update) (ok : Replayable us) (begins : offset_of u.place (size_of us (length us)) ≤ size_of us (length us)) (some : 1 ≤ length u.bytes) where
@@ -117,31 +116,6 @@ module _ (limits : Bounds) (w : Numbered) (b : Blob) (k : Keeps limits w b) (eve
       ap (λ l. l ++ map (λ (o : OpenTouch). o.touch) (waiting_of w)) front
       ∙ ap (λ l. take n w.log ++ l) (opens_touches (n + 1) (drop n w.log))
       ∙ take-append-drop n w.log
-
--- what the hints of a numbering tell: which versions wait, and the log and its last size
-pub record HintsTell (w : Numbered) (b : Blob) (s : Version) (opens : List OpenTouch) : Type 0 where
-  pub first : 0 < length opens → (open_at opens 0).version ≡ length s.rows + 1
-  pub count : length w.log ≡ length s.rows + length opens
-  pub log : IsLog s.page_size (log_with s opens)
-  pub size : (v : ℕ) → v ≡ length w.log → size_at (log_with s opens) v ≡ size_now b
-
-pub hints_tell : (limits : Bounds) (w : Numbered) (b : Blob) (s : Version) (opens : List OpenTouch) → Keeps limits w b → length w.rows ≡ length w.log
-    → s ≡ version_of w → opens ≡ waiting_of w → IsVersion s → HintsTell w b s opens
-hints_tell limits w b s opens k even e f is =
-    let n : ℕ = published_of w in
-    let count = leads limits w b k even in
-    let whole = log_whole limits w b k even (subst IsVersion e is) in
-    let P : Version → Type 0 = λ x. HintsTell w b x opens in
-    let Q : List OpenTouch → Type 0 = λ l. HintsTell w b (version_of w) l in
-    let here : Q (waiting_of w) = record {
-      first = λ lt. opens_first (n + 1) (drop n w.log) lt ∙ ap (λ m. m + 1) (sym count);
-      count = omega (arith, count, published_few limits w b k even, waiting_count limits w b k even);
-      log = (extents b.updates, bounds_hold b.updates k.stands.replayable, whole ∙ k.stands.log);
-      size = λ v at.
-          let last : v ≡ length b.updates = omega (arith, k.stands.counted) in
-          ap (λ l. size_at l v) whole ∙ log_size limits w b k v (omega arith) ∙ ap (size_of b.updates) last;
-    } in
-    subst P (sym e) (subst Q (sym f) here)
 
 -- the same place and bytes
 pub takes_as : (limits : Bounds) (w : Numbered) (b : Blob) (u : Update) (place : Place) (bytes : List ℕ) → u.place ≡ place → u.bytes ≡ bytes → Takes limits w b place bytes → Takes limits w b u.place u.bytes

@@ -1,5 +1,5 @@
 -- The finish of a numbered version.
-use Rattle.std.proofs.Common.{◌≡◌, ℕ, ◌-◌, ◌<◌, ◌≤◌, ◌==◌, Bool, true, false, List, [], ◌∷◌, ◌++◌, length, get_or, set, refl, sym, ◌∙◌, ap, subst, arith}
+use Rattle.std.proofs.Common.{◌≡◌, ℕ, ◌-◌, ◌+◌, ◌<◌, ◌≤◌, ◌==◌, true, false, List, [], ◌∷◌, ◌++◌, length, get_or, set, drop, refl, sym, ◌∙◌, ap, subst, arith}
 use Rattle.std.specs.Prelude.{Option, Some, None, nat_lt}
 use Rattle.std.proofs.lemmas.Bool.Decides.{nat_tests}
 use Rattle.blob_model.specs.Limits.{Bounds}
@@ -14,16 +14,18 @@ use Rattle.blob_model.specs.declared.call.Outcome.TheVariants as Outcomes
 use Rattle.blob_model.specs.declared.call.Refusal.TheVariants as Refusals
 use Rattle.node_store.specs.UpdateRows.{UpdateRow}
 use Rattle.snapshot.specs.Versions.{IsRowOf}
-use Rattle.publisher.specs.Windows.{Numbered, is_finished as is_done}
+use Rattle.publisher.specs.Windows.{Numbered, WindowState, published_of, with_finished, is_finished as is_done}
 use Rattle.border_hints.specs.Numbered.{NumberedUpdate}
 use Rattle.boxcar.specs.Table.{Shelves}
 use Rattle.page_store.specs.House.{House}
-use Rattle.version_manager.specs.Desks.{DeskState, updates_or_none, finished_or_not, is_finished_in, IsTicketOf, IsRowFor}
-use Rattle.version_manager.specs.DeskInvariant.{Keeps, KeepsDesk}
-use Rattle.version_manager.proofs.Blobs.{finished_is}
+use Rattle.version_manager.specs.declared.waiting.WaitingUpdate.{WaitingUpdate}
+use Rattle.version_manager.specs.Desks.{DeskState, updates_or_none, finished_or_not, IsTicketOf, IsRowFor}
+use Rattle.version_manager.specs.DeskInvariant.{Keeps, AreWaiting, KeepsDesk, numbered_of}
+use Rattle.version_manager.proofs.Blobs.{finished_is, finish_kept}
 use Rattle.version_manager.proofs.Stores.{store_after, legal_after, unless_none, unless_some, in_blob_here}
 use Rattle.blob_model.proofs.Marks.{blob_at-with, by_test}
-use Rattle.version_manager.proofs.Desks.{kept_of, absent, replaced, at_index, IsHere, IsAt}
+use Rattle.version_manager.proofs.Desks.{window_of, absent, replaced, at_index, IsHere, IsAt}
+use Rattle.version_manager.proofs.Waits.{finish_passes, published_wait}
 
 -- a numbered version that isn't finished may be
 pub finish_goes : (s : Store) (caller blob version : ℕ) (o : Option Blob) → blob_at s blob ≡ o → 1 ≤ version → version ≤ length (updates_or_none o) → finished_or_not o version ≡ false
@@ -35,18 +37,18 @@ finish_goes s caller blob version (Some b) at first within waits =
     in_blob_here s blob b (λ x. unless_refused s (already x version ∷ []) (done x)) at ∙ unless_none s (already b version ∷ []) (done b) (rw waits refl) in
     ap (λ (a : Answered). is_refused a.1) is
 
-module _ (limits : Bounds) (p : ℕ) (h : List Event) (ws : List Numbered) (kept : KeepsDesk limits p h ws) (blob : ℕ) where
+module _ (limits : Bounds) (p : ℕ) (houses : List House) (h : List Event) (ws : List (WindowState WaitingUpdate)) (kept : KeepsDesk limits p houses h ws) (blob : ℕ) where
   -- a blob with updates is there
   pub with_updates : (version : ℕ) → 1 ≤ version → version ≤ length (updates_or_none (blob_at (store_of limits h) blob)) → (1 ≤ blob) × (blob ≤ length ws)
   with_updates version some within =
       let none : (1 ≤ blob → length ws < blob) → ⊥ = λ past.
-      let e : length (updates_or_none (blob_at (store_of limits h) blob)) ≡ 0 = ap (λ o. length (updates_or_none o)) (absent limits p h ws kept blob past) in
+      let e : length (updates_or_none (blob_at (store_of limits h) blob)) ≡ 0 = ap (λ o. length (updates_or_none o)) (absent limits p houses h ws kept blob past) in
       omega arith in (
         by_test (1 ≤ blob) (blob == 0) (λ t. absurd (none (λ le. let z : blob ≡ 0 = grind (arith, nat_tests) in absurd (omega arith)))) (λ t. grind (arith, nat_tests)),
         by_test (blob ≤ length ws) (nat_lt (length ws) blob) (λ t. absurd (none (λ le. grind (arith, nat_tests)))) (λ t. grind (arith, nat_tests)),
       )
 
-  module _ (caller version : ℕ) (x : IsHere limits p h ws kept blob) where
+  module _ (caller version : ℕ) (x : IsHere limits p houses h ws kept blob) where
     finishing : Blob → Answered
     finishing b =
         let s : Store = store_of limits h in
@@ -74,49 +76,55 @@ module _ (limits : Bounds) (p : ℕ) (h : List Event) (ws : List Numbered) (kept
       pub finish_there : blob_at (store_of limits (h ++ Events.Finish caller blob version ∷ [])) blob ≡ Some (finish x.b version)
       finish_there = ap (λ (s : Store). blob_at s blob) finish_after ∙ blob_at-with (store_of limits h) blob x.b (finish x.b version) x.at
 
-      pub finish_keeps : 1 ≤ version → version ≤ assigned x.b → 1 ≤ blob → (w : Numbered) → Keeps limits w (finish x.b version) → w.blob ≡ blob → w.page_size ≡ p
-          → KeepsDesk limits p (h ++ Events.Finish caller blob version ∷ []) (set ws (blob - 1) w)
-      finish_keeps first within some w k id page =
+      finish_keeps : 1 ≤ version → version ≤ assigned x.b → 1 ≤ blob → (w : WindowState WaitingUpdate) → Keeps limits w.numbered (finish x.b version) → AreWaiting p houses x.b.updates w
+          → w.numbered.blob ≡ blob → w.numbered.page_size ≡ p → KeepsDesk limits p houses (h ++ Events.Finish caller blob version ∷ []) (set ws (blob - 1) w)
+      finish_keeps first within some w k waiting id page =
           let N : Option Blob → Type 0 = λ o. IsNumbered o version in
           let may : N (blob_at (store_of limits h) blob) = subst N (sym x.at) (first, within) in
-          replaced limits p h ws kept (Events.Finish caller blob version) blob (finish x.b version) w some (legal_after limits h (Events.Finish caller blob version) _ _ finish_is kept.legal may refl) finish_after
-          (kept_of limits p blob (finish x.b version) w id page k)
+          replaced limits p houses h ws kept (Events.Finish caller blob version) blob (finish x.b version) w some (legal_after limits h (Events.Finish caller blob version) _ _ finish_is kept.legal may refl) finish_after
+          (window_of limits p houses blob (finish x.b version) w id page k waiting)
+
+  abbrev pub this : List Shelves → DeskState
+  this nodes = record { limits = limits; page_size = p; houses = houses; nodes = nodes; history = h; windows = numbered_of ws }
 
   -- the row of a ticket of the desk, at the window of its blob
-  pub record IsFinishable (version index : ℕ) (w : Numbered) (row : UpdateRow) : Type 0 where
-    pub at : IsAt limits p h ws kept blob index w
-    pub within : version ≤ assigned at.found.b
-    pub own : IsRowOf w.page_size at.found.b.updates version row
+  pub record IsFinishable (version : ℕ) (w : WindowState WaitingUpdate) (row : UpdateRow) : Type 0 where
+    pub at : IsAt limits p houses h ws kept blob (blob - 1) w
+    pub first : 1 ≤ version
+    pub numbered : version ≤ length w.numbered.log
+    pub own : IsRowOf w.numbered.page_size at.found.b.updates version row
 
-  abbrev pub this : List House → List Shelves → DeskState
-  this houses nodes = record { limits = limits; page_size = p; houses = houses; nodes = nodes; history = h; windows = ws }
+  -- whether the version is finished, by the blob
+  pub finishable_mark : (version : ℕ) (w : WindowState WaitingUpdate) (row : UpdateRow) (f : IsFinishable version w row) → is_finished f.at.found.b version ≡ is_done w.numbered version
+  finishable_mark version w row f = sym (finished_is limits w.numbered f.at.found.b f.at.keeps version f.first)
 
-  pub ticket_place : (houses : List House) (nodes : List Shelves) (t : NumberedUpdate) (version : ℕ) → blob ≡ t.blob → version ≡ t.version → 1 ≤ version → IsTicketOf (this houses nodes) t → (1 ≤ blob) × (blob ≤ length ws)
-  ticket_place houses nodes t version on is first ticket =
+  pub finishable : (nodes : List Shelves) (t : NumberedUpdate) (version : ℕ) (w : WindowState WaitingUpdate) (row : UpdateRow) → blob ≡ t.blob → version ≡ t.version → 1 ≤ version → IsTicketOf (this nodes) t → IsRowFor (this nodes) t row
+      → w ≡ get_or ws (blob - 1) w → IsFinishable version w row
+  finishable nodes t version w row on is first ticket own read =
       let N : ℕ → ℕ → Type 0 = λ i v. v ≤ length (updates_or_none (blob_at (store_of limits h) i)) in
-      with_updates version first (subst (λ (i : ℕ). N i version) (sym on) (subst (λ (v : ℕ). N t.blob v) (sym is) ticket.numbered))
-
-  -- whether a ticket's version is finished, by the window of its blob
-  pub ticket_mark : (houses : List House) (nodes : List Shelves) (t : NumberedUpdate) (version : ℕ) (w : Numbered) (mark : Bool) → blob ≡ t.blob → version ≡ t.version → 1 ≤ version → IsTicketOf (this houses nodes) t
-      → w ≡ get_or ws (blob - 1) w → mark ≡ is_done w version → is_finished_in (this houses nodes) t.blob t.version ≡ mark
-  ticket_mark houses nodes t version w mark on is first ticket read known =
-      let r = ticket_place houses nodes t version on is first ticket in
-      let x : IsAt limits p h ws kept blob (blob - 1) w = at_index limits p h ws kept blob (blob - 1) (length ws) w refl (refl, r.0, r.1) read in
-      let O : ℕ → ℕ → Type 0 = λ i n. finished_or_not (blob_at (store_of limits h) i) n ≡ mark in
-      let here : O blob version = ap (λ o. finished_or_not o version) x.found.at ∙ sym (finished_is limits w x.found.b x.keeps version first) ∙ sym known in
-      subst (λ (n : ℕ). O t.blob n) is (subst (λ (i : ℕ). O i version) on here)
-
-  pub finishable : (houses : List House) (nodes : List Shelves) (t : NumberedUpdate) (version index : ℕ) (w : Numbered) (row : UpdateRow) → blob ≡ t.blob → version ≡ t.version → index ≡ blob - 1 → 1 ≤ version → IsTicketOf (this houses nodes) t → IsRowFor (this houses nodes) t row
-      → w ≡ get_or ws index w → IsFinishable version index w row
-  finishable houses nodes t version index w row on is at first ticket own read =
-      let r = ticket_place houses nodes t version on is first ticket in
-      let x : IsAt limits p h ws kept blob index w = at_index limits p h ws kept blob index (length ws) w refl (at, r.0, r.1) read in
+      let here = with_updates version first (subst (λ (i : ℕ). N i version) (sym on) (subst (λ (v : ℕ). N t.blob v) (sym is) ticket.numbered)) in
+      let x : IsAt limits p houses h ws kept blob (blob - 1) w = at_index limits p houses h ws kept blob (blob - 1) (length ws) w refl (refl, here.0, here.1) read in
       let us : updates_or_none (blob_at (store_of limits h) t.blob) ≡ x.found.b.updates = ap (λ (i : ℕ). updates_or_none (blob_at (store_of limits h) i)) (sym on) ∙ ap updates_or_none x.found.at in
       let R : List Update → Type 0 = λ l. IsRowOf p l t.version row in
       let S : ℕ → Type 0 = λ v. IsRowOf p x.found.b.updates v row in
       let Q : ℕ → Type 0 = λ q. IsRowOf q x.found.b.updates version row in
       record {
         at = x;
-        within = omega (arith, is, ticket.numbered, ap length us);
+        first = first;
+        numbered = omega (arith, is, ticket.numbered, ap length us, x.keeps.stands.counted);
         own = subst Q (sym x.page) (subst S (sym is) (subst R us own));
       }
+
+  -- the desk keeps its blobs once the version is finished
+  pub finished_keeps : (caller version : ℕ) (w w' : WindowState WaitingUpdate) (row : UpdateRow) (f : IsFinishable version w row) → length w.numbered.rows ≡ length w.numbered.log → is_done w.numbered version ≡ false
+      → w'.numbered ≡ with_finished w.numbered version row → w'.updates ≡ drop (published_of w'.numbered - published_of w.numbered) w.updates
+      → KeepsDesk limits p houses (h ++ Events.Finish caller blob version ∷ []) (set ws (blob - 1) w')
+  finished_keeps caller version w w' row f even waits is left =
+      let b : Blob = f.at.found.b in
+      let k = finish_kept limits w.numbered b f.at.keeps even version row f.first (omega (arith, f.numbered, f.at.keeps.stands.counted)) f.own in
+      let far : published_of w'.numbered ≡ published_of w.numbered + (published_of w'.numbered - published_of w.numbered) = omega (arith, ap published_of is, finish_passes w.numbered version row) in
+      finish_keeps caller version f.at.found (finishable_mark version w row f ∙ waits) f.first (omega (arith, f.numbered, f.at.keeps.stands.counted)) f.at.some w'
+      (subst (λ (v : Numbered). Keeps limits v (finish b version)) (sym is) k)
+      (published_wait p houses b.updates w w' (published_of w'.numbered - published_of w.numbered) far left f.at.waits)
+      (ap (λ (v : Numbered). v.blob) is ∙ f.at.id)
+      (ap (λ (v : Numbered). v.page_size) is ∙ f.at.page)

@@ -18,4 +18,5 @@ pub mod GapFinishes
 pub mod Origins
 pub mod Waits
 pub mod Orders
+pub mod Keeping
 pub mod Reissuing

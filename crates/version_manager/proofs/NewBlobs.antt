@@ -11,17 +11,20 @@ use Rattle.blob_model.specs.declared.call.Event.{Event}
 use Rattle.blob_model.specs.declared.call.Event.TheVariants as Events
 use Rattle.blob_model.specs.declared.call.Outcome.TheVariants as Outcomes
 use Rattle.blob_model.specs.declared.call.Refusal.TheVariants as Refusals
-use Rattle.publisher.specs.Windows.{Numbered, published_of}
+use Rattle.page_store.specs.House.{House}
+use Rattle.publisher.specs.Windows.{Numbered, WindowState, published_of}
+use Rattle.version_manager.specs.declared.waiting.WaitingUpdate.{WaitingUpdate}
 use Rattle.version_manager.specs.Desks.{no_window}
-use Rattle.version_manager.specs.DeskInvariant.{Keeps, KeepsDesk}
+use Rattle.version_manager.specs.DeskInvariant.{Keeps, KeepsDesk, numbered_of}
 use Rattle.version_manager.proofs.BlobsTests.{first_hit, first_pass}
 use Rattle.version_manager.proofs.Stores.{store_after, legal_after, unless_none, unless_some, in_blob_here, store_limits}
-use Rattle.version_manager.proofs.Desks.{kept_of, pushed, IsHere}
+use Rattle.version_manager.proofs.Desks.{window_of, pushed, IsHere}
+use Rattle.version_manager.proofs.Waits.{none_wait}
 
 abbrev pub no_updates : Blob
 no_updates = record { updates = []; finished = [] }
 
-module _ (limits : Bounds) (p : ℕ) (h : List Event) (ws : List Numbered) (kept : KeepsDesk limits p h ws) (caller : ℕ) where
+module _ (limits : Bounds) (p : ℕ) (houses : List House) (h : List Event) (ws : List (WindowState WaitingUpdate)) (kept : KeepsDesk limits p houses h ws) (caller : ℕ) where
   full : length ws ≡ limits.max_blobs → (too_many_blobs (store_of limits h)).refuses ≡ true
   full e =
       let s : Store = store_of limits h in
@@ -55,13 +58,13 @@ module _ (limits : Bounds) (p : ℕ) (h : List Event) (ws : List Numbered) (kept
   pub create_outcome : (length ws ≡ limits.max_blobs → ⊥) → (answer (store_of limits h) caller Calls.Create).1 ≡ Outcomes.Blob (length ws + 1)
   create_outcome apart = ap (λ (a : Answered). a.1) (create_is apart) ∙ id_is
 
-  pub create_keeps : (length ws ≡ limits.max_blobs → ⊥) → (w : Numbered) → Keeps limits w no_updates → w.blob ≡ length ws + 1 → w.page_size ≡ p
-      → KeepsDesk limits p (h ++ Events.Create caller ∷ []) (ws ++ w ∷ [])
-  create_keeps apart w k id page =
+  pub create_keeps : (length ws ≡ limits.max_blobs → ⊥) → (w : WindowState WaitingUpdate) → Keeps limits w.numbered no_updates → w.updates ≡ [] → w.numbered.blob ≡ length ws + 1 → w.numbered.page_size ≡ p
+      → KeepsDesk limits p houses (h ++ Events.Create caller ∷ []) (ws ++ w ∷ [])
+  create_keeps apart w k none id page =
       let fewer : length ws < limits.max_blobs = (let f : length ws ≤ limits.max_blobs = kept.few in omega (arith, apart)) in
-      let next : w.blob ≡ suc (length ws) = omega (arith, id) in
-      pushed limits p h ws kept (Events.Create caller) no_updates w (legal_after limits h (Events.Create caller) _ _ (create_is apart) kept.legal tt refl) (store_after limits h (Events.Create caller) _ _ (create_is apart)) fewer
-      (kept_of limits p (suc (length ws)) no_updates w next page k)
+      let next : w.numbered.blob ≡ suc (length ws) = omega (arith, id) in
+      pushed limits p houses h ws kept (Events.Create caller) no_updates w (legal_after limits h (Events.Create caller) _ _ (create_is apart) kept.legal tt refl) (store_after limits h (Events.Create caller) _ _ (create_is apart)) fewer
+      (window_of limits p houses (suc (length ws)) no_updates w next page k (none_wait p houses [] w none))
 
   -- ---- a branch
   module _ (blob version : ℕ) where
@@ -70,19 +73,19 @@ module _ (limits : Bounds) (p : ℕ) (h : List Event) (ws : List Numbered) (kept
         let s : Store = store_of limits h in
         unless_refused s (not_published b version ∷ too_many_blobs s ∷ []) (and_blob s (branch_of b version), Outcomes.Blob (length s.blobs + 1))
 
-    module _ (x : IsHere limits p h ws kept blob) where
+    module _ (x : IsHere limits p houses h ws kept blob) where
       w : Numbered
-      w = get_or ws (blob - 1) no_window
+      w = get_or (numbered_of ws) (blob - 1) no_window
 
-      published_is : published x.b ≡ published_of (get_or ws (blob - 1) no_window)
+      published_is : published x.b ≡ published_of (get_or (numbered_of ws) (blob - 1) no_window)
       published_is = ap true_prefix x.keeps.finished
 
       branch_at : answer (store_of limits h) caller (Calls.Branch blob version) ≡ branching x.b
       unfolding branching
       branch_at = in_blob_here (store_of limits h) blob x.b branching x.at
 
-      pub branch_ahead : published_of (get_or ws (blob - 1) no_window) < version →
-          (answer (store_of limits h) caller (Calls.Branch blob version)).1 ≡ Outcomes.Refused (Refusals.NotPublished version (published_of (get_or ws (blob - 1) no_window)))
+      pub branch_ahead : published_of (get_or (numbered_of ws) (blob - 1) no_window) < version →
+          (answer (store_of limits h) caller (Calls.Branch blob version)).1 ≡ Outcomes.Refused (Refusals.NotPublished version (published_of (get_or (numbered_of ws) (blob - 1) no_window)))
       unfolding branching
       branch_ahead lt =
           let s : Store = store_of limits h in
@@ -91,7 +94,7 @@ module _ (limits : Bounds) (p : ℕ) (h : List Event) (ws : List Numbered) (kept
           ap (λ (a : Answered). a.1) (branch_at ∙ unless_some s (not_published x.b version ∷ too_many_blobs s ∷ []) _ _ (sym (first_hit (not_published x.b version) (too_many_blobs s ∷ []) t)))
           ∙ ap (λ (n : ℕ). Outcomes.Refused (Refusals.NotPublished version n)) published_is
 
-      module _ (le : version ≤ published_of (get_or ws (blob - 1) no_window)) where
+      module _ (le : version ≤ published_of (get_or (numbered_of ws) (blob - 1) no_window)) where
         behind : (not_published x.b version).refuses ≡ false
         behind = (let at : version ≤ published x.b = omega (arith, published_is) in grind (arith, nat_tests))
 
@@ -111,11 +114,11 @@ module _ (limits : Bounds) (p : ℕ) (h : List Event) (ws : List Numbered) (kept
           pub branch_outcome : (answer (store_of limits h) caller (Calls.Branch blob version)).1 ≡ Outcomes.Blob (length ws + 1)
           branch_outcome = ap (λ (a : Answered). a.1) branch_is ∙ id_is
 
-          pub branch_keeps : (w' : Numbered) → Keeps limits w' (branch_of x.b version) → w'.blob ≡ length ws + 1 → w'.page_size ≡ p
-              → KeepsDesk limits p (h ++ Events.Branch caller blob version ∷ []) (ws ++ w' ∷ [])
-          branch_keeps w' k id page =
+          pub branch_keeps : (w' : WindowState WaitingUpdate) → Keeps limits w'.numbered (branch_of x.b version) → w'.updates ≡ [] → w'.numbered.blob ≡ length ws + 1 → w'.numbered.page_size ≡ p
+              → KeepsDesk limits p houses (h ++ Events.Branch caller blob version ∷ []) (ws ++ w' ∷ [])
+          branch_keeps w' k none id page =
               let fewer : length ws < limits.max_blobs = (let f : length ws ≤ limits.max_blobs = kept.few in omega (arith, apart)) in
-              let next : w'.blob ≡ suc (length ws) = omega (arith, id) in
+              let next : w'.numbered.blob ≡ suc (length ws) = omega (arith, id) in
               let e = Events.Branch caller blob version in
-              pushed limits p h ws kept e (branch_of x.b version) w' (legal_after limits h e _ _ branch_is kept.legal tt refl) (store_after limits h e _ _ branch_is) fewer
-              (kept_of limits p (suc (length ws)) (branch_of x.b version) w' next page k)
+              pushed limits p houses h ws kept e (branch_of x.b version) w' (legal_after limits h e _ _ branch_is kept.legal tt refl) (store_after limits h e _ _ branch_is) fewer
+              (window_of limits p houses (suc (length ws)) (branch_of x.b version) w' next page k (none_wait p houses (branch_of x.b version).updates w' none))

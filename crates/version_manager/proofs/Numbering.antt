@@ -20,19 +20,21 @@ use Rattle.range_log.specs.Updates.{update_at, extents, no_update}
 use Rattle.std.specs.declared.sync.Arc.{Arc}
 use Rattle.std.specs.Arc.{arc_value}
 use Rattle.page_store.specs.declared.stored.Pages.{Pages}
+use Rattle.page_store.specs.House.{House}
 use Rattle.page_store.specs.Stored.{Cut, bytes_of_pages}
 use Rattle.version_manager.specs.declared.entry.Change.TheVariants as Changes
 use Rattle.version_manager.specs.declared.entry.Entry.{Entry}
+use Rattle.version_manager.specs.declared.waiting.WaitingUpdate.{WaitingUpdate}
 use Rattle.version_manager.specs.Entries.{event_of}
 use Rattle.border_hints.specs.Numbered.{NumberedUpdate, IsTicketAmong}
-use Rattle.publisher.specs.Windows.{Numbered}
+use Rattle.publisher.specs.Windows.{Numbered, WindowState}
 use Rattle.version_manager.specs.Desks.{DeskState, updates_or_none, updates_in, finished_or_not, OnRefused, IsTicketOf, IsUnfinished, refusal_in}
 use Rattle.version_manager.specs.declared.fault.DeskFault.{DeskFault}
 use Rattle.version_manager.specs.declared.fault.DeskFault.TheVariants.{Refused, NoMemory}
-use Rattle.version_manager.specs.DeskInvariant.{Keeps, KeepsDesk, update_tests}
+use Rattle.version_manager.specs.DeskInvariant.{Keeps, AreWaiting, KeepsDesk, update_tests}
 use Rattle.version_manager.proofs.Stores.{store_after, legal_after, unless_none, unless_some, in_blob_here, in_blob_none, store_limits}
 use Rattle.blob_model.proofs.Marks.{blob_at-with}
-use Rattle.version_manager.proofs.Desks.{pushed_event, absent, kept_of, replaced, IsHere}
+use Rattle.version_manager.proofs.Desks.{pushed_event, absent, window_of, replaced, IsHere}
 
 -- ---- the entry of a numbering
 pub numbered_event : (old room new : List Entry) (caller blob : ℕ) (place : Place) (pages : Arc Pages Global) (q : Cut) → room ≡ old
@@ -90,7 +92,7 @@ told : (s : Store) (o : Option Refusal) (done : Answered) → refusal_in done.1 
 told s (Some r) done e = refl
 told s None done e = e
 
-module _ (limits : Bounds) (p : ℕ) (h : List Event) (ws : List Numbered) (kept : KeepsDesk limits p h ws) (caller blob : ℕ) (place : Place) (bytes : List ℕ) where
+module _ (limits : Bounds) (p : ℕ) (houses : List House) (h : List Event) (ws : List (WindowState WaitingUpdate)) (kept : KeepsDesk limits p houses h ws) (caller blob : ℕ) (place : Place) (bytes : List ℕ) where
   abbrev pub own_update : Update
   own_update = record { caller = caller; place = place; bytes = bytes }
 
@@ -106,9 +108,9 @@ module _ (limits : Bounds) (p : ℕ) (h : List Event) (ws : List Numbered) (kept
 
   pub assign_absent : (1 ≤ blob → length ws < blob) → (answer (store_of limits h) caller (Calls.Assign blob place bytes)).1 ≡ Outcomes.Refused (Refusals.NoBlob blob)
   unfolding assigning
-  assign_absent past = ap (λ (a : Answered). a.1) (in_blob_none (store_of limits h) blob assigning (absent limits p h ws kept blob past))
+  assign_absent past = ap (λ (a : Answered). a.1) (in_blob_none (store_of limits h) blob assigning (absent limits p houses h ws kept blob past))
 
-  module _ (x : IsHere limits p h ws kept blob) where
+  module _ (x : IsHere limits p houses h ws kept blob) where
     tests_is : first_refusal (update_tests (store_of limits h).limits x.b place bytes) ≡ first_refusal (update_tests limits x.b place bytes)
     tests_is = ap (λ (l : Bounds). first_refusal (update_tests l x.b place bytes)) (store_limits limits h)
 
@@ -145,9 +147,11 @@ module _ (limits : Bounds) (p : ℕ) (h : List Event) (ws : List Numbered) (kept
       assign_after : store_of limits (h ++ own_event ∷ []) ≡ with_blob (store_of limits h) blob (and_update x.b own_update)
       assign_after = store_after limits h own_event _ _ assign_is
 
-      pub assign_keeps : 1 ≤ length bytes → 1 ≤ blob → (w : Numbered) → Keeps limits w (and_update x.b own_update) → w.blob ≡ blob → w.page_size ≡ p → KeepsDesk limits p (h ++ own_event ∷ []) (set ws (blob - 1) w)
-      assign_keeps many some w k id page =
-          replaced limits p h ws kept own_event blob (and_update x.b own_update) w some (legal_after limits h own_event _ _ assign_is kept.legal many refl) assign_after (kept_of limits p blob (and_update x.b own_update) w id page k)
+      pub assign_keeps : 1 ≤ length bytes → 1 ≤ blob → (w : WindowState WaitingUpdate) → Keeps limits w.numbered (and_update x.b own_update) → AreWaiting p houses (x.b.updates ++ own_update ∷ []) w
+          → w.numbered.blob ≡ blob → w.numbered.page_size ≡ p → KeepsDesk limits p houses (h ++ own_event ∷ []) (set ws (blob - 1) w)
+      assign_keeps many some w k waits id page =
+          replaced limits p houses h ws kept own_event blob (and_update x.b own_update) w some (legal_after limits h own_event _ _ assign_is kept.legal many refl) assign_after
+          (window_of limits p houses blob (and_update x.b own_update) w id page k waits)
 
       pub assign_there : blob_at (store_of limits (h ++ own_event ∷ [])) blob ≡ Some (and_update x.b own_update)
       assign_there = ap (λ (s : Store). blob_at s blob) assign_after ∙ blob_at-with (store_of limits h) blob x.b (and_update x.b own_update) x.at

@@ -4,11 +4,12 @@ use Rattle.std.specs.Prelude.{None, Some, nat_lt, if◌then◌else◌}
 use Rattle.std.specs.Arc.{arc_value}
 use Rattle.std.proofs.lemmas.Option.{none-some}
 use Rattle.std.proofs.lemmas.Bool.{lt-ltb, le-ltb}
-use Rattle.std.proofs.lemmas.List.{get_or-drop, get_or-take, length-take-le, take-append-le}
+use lib.Seq.{take-nil, take_all}
+use Rattle.std.proofs.lemmas.List.{get_or-take, length-take-le, take-append-le, take-map}
 use Rattle.std.proofs.Math.Seq.{take-suc, take-add, take-length}
 use Rattle.blob_model.specs.Content.{Update, size_of}
 use Rattle.blob_model.specs.Limits.{Bounds}
-use Rattle.blob_model.specs.Store.{Blob, blob_at}
+use Rattle.blob_model.specs.Store.{Blob, blob_at, size_now}
 use Rattle.blob_model.specs.Answer.{Test, first_refusal, not_numbered, already}
 use Rattle.blob_model.specs.History.{store_of}
 use Rattle.page_store.specs.House.{House}
@@ -32,8 +33,8 @@ use Rattle.version_manager.specs.Desks.{DeskState, updates_in, updates_or_none, 
 use Rattle.version_manager.specs.DeskInvariant.{Keeps, IsWaitingUpdate}
 use Rattle.version_manager.proofs.BlobsTests.{first_hit}
 use Rattle.blob_model.proofs.Marks.{by_test}
-use Rattle.version_manager.proofs.BlobsSizes.{opens_touches, opens_touch, opens_first}
-use Rattle.version_manager.proofs.Blobs.{leads, waiting_count, log_size, replayable_taken}
+use Rattle.version_manager.proofs.BlobsSizes.{opens_touches, opens_first}
+use Rattle.version_manager.proofs.Blobs.{leads, published_few, waiting_count, open_size, log_size, replayable_taken}
 use Rattle.version_manager.proofs.BlobsNext.{front}
 
 -- ---- the first of the waiting updates
@@ -41,10 +42,6 @@ pub opens_taken : (n v : ℕ) (ts : List Touch) → take n (opens_from v ts) ≡
 opens_taken zero v ts = refl
 opens_taken (suc n) v [] = refl
 opens_taken (suc n) v (t ∷ ts) = ap (λ l. record { version = v; touch = t } ∷ l) (opens_taken n (v + 1) ts)
-
-none_taken : {X : Type 0} (n : ℕ) → (let none : List X = [] in take n none ≡ none)
-none_taken zero = refl
-none_taken (suc n) = refl
 
 -- those below a version are the first
 module _ (version v : ℕ) (o : OpenTouch) (is : o.version ≡ v) (opens : List OpenTouch) (rest : opens_below version opens ≡ take (version - (v + 1)) opens) where
@@ -59,18 +56,13 @@ module _ (version v : ℕ) (o : OpenTouch) (is : o.version ≡ v) (opens : List 
       ap (λ (b : Bool). if b then o ∷ opens_below version opens else opens_below version opens) first ∙ ap (λ l. o ∷ l) (rest ∙ ap (λ m. take m opens) next)
 
 pub below_taken : (version v : ℕ) (ts : List Touch) → opens_below version (opens_from v ts) ≡ take (version - v) (opens_from v ts)
-below_taken version v [] = sym (none_taken (version - v))
+below_taken version v [] = sym (take-nil (version - v))
 below_taken version v (t ∷ ts) = below_more version v record { version = v; touch = t } refl (opens_from (v + 1) ts) (below_taken version (v + 1) ts) (version - v) refl
-
-map-taken : {X Y : Type 0} (f : X → Y) (n : ℕ) (xs : List X) → map f (take n xs) ≡ take n (map f xs)
-map-taken f zero xs = refl
-map-taken f (suc n) [] = refl
-map-taken f (suc n) (x ∷ xs) = ap (λ l. f x ∷ l) (map-taken f n xs)
 
 pub drop-taken : {X : Type 0} (n m : ℕ) (xs : List X) → drop n (take m xs) ≡ take (m - n) (drop n xs)
 drop-taken zero m xs = let e : m - 0 ≡ m = omega arith in sym (ap (λ k. take k xs) e)
 drop-taken (suc n) zero xs = let e : zero - suc n ≡ 0 = omega arith in sym (ap (λ k. take k (drop (suc n) xs)) e)
-drop-taken (suc n) (suc m) [] = sym (none_taken (suc m - suc n))
+drop-taken (suc n) (suc m) [] = sym (take-nil (suc m - suc n))
 drop-taken (suc n) (suc m) (x ∷ xs) = let e : suc m - suc n ≡ m - n = omega arith in drop-taken n m xs ∙ sym (ap (λ k. take k (drop n xs)) e)
 
 size_at-taken : (k : ℕ) (log : List Touch) → size_at (take k log) k ≡ size_at log k
@@ -92,14 +84,14 @@ extent_taken us i lt =
     let count : length xs ≡ suc i = length-take-le (suc i) us lt in
     extent_is xs i (omega arith) ∙ sym (extent_of_front xs (drop (suc i) us) i (omega arith)) ∙ ap (λ l. extent_of l (suc i)) (take-append-drop (suc i) us)
 
--- what the hints of a waiting version tell: the log below it and its size, where the version is number i from 0
+-- what the hints of a version tell: the log below it and its size, where the version is number i from 0
 pub record TellBelow (us : List Update) (i : ℕ) (s : Version) (opens : List OpenTouch) : Type 0 where
   pub first : 0 < length opens → (open_at opens 0).version ≡ length s.rows + 1
   pub count : i ≡ length s.rows + length opens
   pub log : IsLog s.page_size (log_with s opens)
   pub size : size_at (log_with s opens) i ≡ size_of us i
 
-module _ (limits : Bounds) (w : Numbered) (b : Blob) (k : Keeps limits w b) (even : length w.rows ≡ length w.log) (i : ℕ) (above : published_of w ≤ i) (within : i < length w.log) where
+module _ (limits : Bounds) (w : Numbered) (b : Blob) (k : Keeps limits w b) (even : length w.rows ≡ length w.log) (i : ℕ) (above : published_of w ≤ i) (upto : i ≤ length w.log) where
   abbrev n : ℕ
   n = published_of w
 
@@ -109,57 +101,18 @@ module _ (limits : Bounds) (w : Numbered) (b : Blob) (k : Keeps limits w b) (eve
   abbrev opens' : List OpenTouch
   opens' = take (i - n) (waiting_of w)
 
-  abbrev own : Extent
-  own = extent_of us (suc i)
-
-  lt : i < length us
-  lt = omega (arith, k.stands.counted)
-
-  -- ---- the update
-  pub begins : (own.at ≤ size_of us i) × (1 ≤ own.len)
-  begins = k.stands.replayable i lt
-
-  pub size_next : size_of us (suc i) ≡ max (size_of us i) (own.at + own.len)
-  size_next =
-      let E : List Extent = extents us in
-      let with' : ℕ → Extent → ℕ = λ m x. max m (x.at + x.len) in
-      sym (size_is us (suc i) k.stands.replayable lt) ∙ ap (λ m. with' m (extent_at E (suc i))) (size_is us i k.stands.replayable (omega (arith, lt))) ∙ ap (with' (size_of us i)) (extent_is us i lt)
-
-  touch_is : get_or w.log i no_touch ≡ touched_by w.page_size own.at own.len (size_of us (suc i))
-  touch_is =
-      let E : List Extent = extents us in
-      let made : Extent → ℕ → Touch = λ y m. touched_by w.page_size y.at y.len m in
-      ap (λ l. get_or l i no_touch) k.stands.log
-      ∙ touch-touches w.page_size E i (omega (arith, length-extents us, lt))
-      ∙ ap (λ y. made y (size_after E (suc i))) (extent_is us i lt)
-      ∙ ap (made own) (size_is us (suc i) k.stands.replayable lt)
-
-  -- the size after it, as it waits
-  pub waits_size : (open_at (waiting_of w) (i - n)).touch.size ≡ size_of us (suc i)
-  waits_size =
-      let at : n + (i - n) ≡ i = omega (arith, above) in
-      let S : Touch → ℕ = λ t. t.size in
-      ap S (opens_touch (n + 1) (drop n w.log) (i - n))
-      ∙ ap S (get_or-drop n w.log (i - n) no_touch)
-      ∙ ap (λ j. S (get_or w.log j no_touch)) at
-      ∙ ap S touch_is
-
-  pub waits_before : i - n < length (waiting_of w)
-  waits_before = omega (arith, waiting_count limits w b k even, above, within)
-
-  -- ---- the log
   taken_log : (j : ℕ) → j ≤ length us → touches w.page_size (extents (take j us)) ≡ take j w.log
   taken_log j le = ap (touches w.page_size) (extents_taken us j le) ∙ touches_first rows_stay w.page_size j (extents us) (omega (arith, length-extents us)) ∙ ap (take j) (sym k.stands.log)
 
   opens_count : length opens' ≡ i - n
-  opens_count = length-take-le (i - n) (waiting_of w) (omega (arith, waits_before))
+  opens_count = length-take-le (i - n) (waiting_of w) (omega (arith, waiting_count limits w b k even, above, upto))
 
   module _ (is : IsVersion (version_of w)) where
     below : log_with (version_of w) opens' ≡ take i w.log
     below =
         let at : n + (i - n) ≡ i = omega (arith, above) in
         let T : OpenTouch → Touch = λ o. o.touch in
-        let waits : map T opens' ≡ take (i - n) (drop n w.log) = map-taken T (i - n) (waiting_of w) ∙ ap (take (i - n)) (opens_touches (n + 1) (drop n w.log)) in
+        let waits : map T opens' ≡ take (i - n) (drop n w.log) = sym (take-map T (i - n) (waiting_of w)) ∙ ap (take (i - n)) (opens_touches (n + 1) (drop n w.log)) in
         ap (λ l. l ++ map T opens') (front limits w b k even is)
         ∙ ap (λ l. take n w.log ++ l) waits
         ∙ sym (take-add n (i - n) w.log)
@@ -168,13 +121,14 @@ module _ (limits : Bounds) (w : Numbered) (b : Blob) (k : Keeps limits w b) (eve
     tell_here : TellBelow us i (version_of w) opens'
     tell_here =
         let count = leads limits w b k even in
+        let le : i ≤ length us = omega (arith, upto, k.stands.counted) in
         record {
           first = λ some.
               let e : take (i - n) (waiting_of w) ≡ opens_from (n + 1) (take (i - n) (drop n w.log)) = opens_taken (i - n) (n + 1) (drop n w.log) in
               ap (λ l. (open_at l 0).version) e ∙ opens_first (n + 1) (take (i - n) (drop n w.log)) (omega (arith, some, ap length e)) ∙ ap (λ m. m + 1) (sym count);
           count = omega (arith, count, opens_count, above);
-          log = (extents (take i us), bounds_hold (take i us) (replayable_taken us i (omega (arith, lt)) k.stands.replayable), below ∙ sym (taken_log i (omega (arith, lt))));
-          size = ap (λ l. size_at l i) below ∙ size_at-taken i w.log ∙ log_size limits w b k i (omega (arith, lt));
+          log = (extents (take i us), bounds_hold (take i us) (replayable_taken us i le k.stands.replayable), below ∙ sym (taken_log i le));
+          size = ap (λ l. size_at l i) below ∙ size_at-taken i w.log ∙ log_size limits w b k i le;
         }
 
     pub tell_below : (s : Version) (opens : List OpenTouch) → s ≡ version_of w → opens ≡ opens' → TellBelow us i s opens
@@ -183,7 +137,56 @@ module _ (limits : Bounds) (w : Numbered) (b : Blob) (k : Keeps limits w b) (eve
         let Q : List OpenTouch → Type 0 = λ l. TellBelow us i (version_of w) l in
         subst P (sym e) (subst Q (sym f) tell_here)
 
-    pub stands_again : (t : NumberedUpdate) → t.snapshot ≡ version_of w → t.waiting ≡ opens' → t.version ≡ suc i → t.at ≡ own.at → t.len ≡ own.len → t.size ≡ size_of us (suc i) → IsTicketAmong t (extents (take (suc i) us))
+-- those of the next version tell the whole log
+pub tell_all : (limits : Bounds) (w : Numbered) (b : Blob) (s : Version) (opens : List OpenTouch) → Keeps limits w b → length w.rows ≡ length w.log → s ≡ version_of w → opens ≡ waiting_of w → IsVersion s
+    → TellBelow b.updates (length w.log) s opens
+tell_all limits w b s opens k even e f is =
+    let few : length (waiting_of w) ≤ length w.log - published_of w = omega (arith, waiting_count limits w b k even) in
+    tell_below limits w b k even (length w.log) (published_few limits w b k even) (omega arith) (subst IsVersion e is) s opens e (f ∙ sym (take_all (length w.log - published_of w) (waiting_of w) few))
+
+pub size_all : (limits : Bounds) (w : Numbered) (b : Blob) (s : Version) (opens : List OpenTouch) → Keeps limits w b → length w.rows ≡ length w.log → s ≡ version_of w → opens ≡ waiting_of w → IsVersion s
+    → (v : ℕ) → v ≡ length w.log → size_at (log_with s opens) v ≡ size_now b
+size_all limits w b s opens k even e f is v at = ap (size_at (log_with s opens)) at ∙ (tell_all limits w b s opens k even e f is).size ∙ ap (size_of b.updates) (sym k.stands.counted)
+
+-- ---- an update that waits, number i from 0
+module _ (limits : Bounds) (w : Numbered) (b : Blob) (k : Keeps limits w b) (even : length w.rows ≡ length w.log) (i : ℕ) (above : published_of w ≤ i) (within : i < length w.log) where
+  abbrev own : Extent
+  own = extent_of b.updates (suc i)
+
+  lt : i < length b.updates
+  lt = omega (arith, k.stands.counted)
+
+  pub begins : (own.at ≤ size_of b.updates i) × (1 ≤ own.len)
+  begins = k.stands.replayable i lt
+
+  pub size_next : size_of b.updates (suc i) ≡ max (size_of b.updates i) (own.at + own.len)
+  size_next =
+      let E : List Extent = extents b.updates in
+      let with' : ℕ → Extent → ℕ = λ m x. max m (x.at + x.len) in
+      sym (size_is b.updates (suc i) k.stands.replayable lt)
+      ∙ ap (λ m. with' m (extent_at E (suc i))) (size_is b.updates i k.stands.replayable (omega (arith, lt)))
+      ∙ ap (with' (size_of b.updates i)) (extent_is b.updates i lt)
+
+  touch_is : get_or w.log i no_touch ≡ touched_by w.page_size own.at own.len (size_of b.updates (suc i))
+  touch_is =
+      let E : List Extent = extents b.updates in
+      let made : Extent → ℕ → Touch = λ y m. touched_by w.page_size y.at y.len m in
+      ap (λ l. get_or l i no_touch) k.stands.log
+      ∙ touch-touches w.page_size E i (omega (arith, length-extents b.updates, lt))
+      ∙ ap (λ y. made y (size_after E (suc i))) (extent_is b.updates i lt)
+      ∙ ap (made own) (size_is b.updates (suc i) k.stands.replayable lt)
+
+  pub waits_before : i - published_of w < length (waiting_of w)
+  waits_before = omega (arith, waiting_count limits w b k even, above, within)
+
+  -- the size after it, as it waits
+  pub waits_size : (open_at (waiting_of w) (i - published_of w)).touch.size ≡ size_of b.updates (suc i)
+  waits_size =
+      let at : published_of w + (i - published_of w) ≡ i = omega (arith, above) in
+      open_size limits w b k even (i - published_of w) waits_before ∙ ap (λ j. size_of b.updates (suc j)) at
+
+  module _ (is : IsVersion (version_of w)) where
+    pub stands_again : (t : NumberedUpdate) → t.snapshot ≡ version_of w → t.waiting ≡ take (i - published_of w) (waiting_of w) → t.version ≡ suc i → t.at ≡ own.at → t.len ≡ own.len → t.size ≡ size_of b.updates (suc i) → IsTicketAmong t (extents (take (suc i) b.updates))
     stands_again t snapshot waiting version at len size =
         let page : t.snapshot.page_size ≡ w.page_size = ap (λ (s : Version). s.page_size) snapshot in
         let touch : own_touch t ≡ get_or w.log i no_touch =
@@ -192,18 +195,18 @@ module _ (limits : Bounds) (w : Numbered) (b : Blob) (k : Keeps limits w b) (eve
         ∙ ap (λ m. touched_by w.page_size own.at m t.size) len
         ∙ ap (touched_by w.page_size own.at own.len) size
         ∙ sym touch_is in
-        let log : log_with t.snapshot t.waiting ≡ take i w.log = ap (λ s. log_with s t.waiting) snapshot ∙ ap (log_with (version_of w)) waiting ∙ below in
+        let log : log_with t.snapshot t.waiting ≡ take i w.log = ap (λ s. log_with s t.waiting) snapshot ∙ ap (log_with (version_of w)) waiting ∙ below limits w b k even i above (omega (arith, within)) is in
         record {
-          in_bounds = bounds_hold (take (suc i) us) (replayable_taken us (suc i) lt k.stands.replayable);
+          in_bounds = bounds_hold (take (suc i) b.updates) (replayable_taken b.updates (suc i) lt k.stands.replayable);
           touches =
-              ap (λ q. touches q (extents (take (suc i) us))) page
-              ∙ taken_log (suc i) lt
+              ap (λ q. touches q (extents (take (suc i) b.updates))) page
+              ∙ taken_log limits w b k even i above (omega (arith, within)) (suc i) lt
               ∙ take-suc w.log i no_touch within
               ∙ ap (λ l. l ++ get_or w.log i no_touch ∷ []) (sym log)
               ∙ ap (λ x. log_with t.snapshot t.waiting ++ x ∷ []) (sym touch);
           own =
-              ap (extent_at (extents (take (suc i) us))) version
-              ∙ extent_taken us i lt
+              ap (extent_at (extents (take (suc i) b.updates))) version
+              ∙ extent_taken b.updates i lt
               ∙ ap (λ m. record { at = m; len = own.len }) (sym at)
               ∙ ap (λ m. record { at = t.at; len = m }) (sym len);
         }

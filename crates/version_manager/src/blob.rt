@@ -16,7 +16,7 @@ ghost use Rattle.version_manager.specs.Blobs.{Takes};
 ghost use Rattle.version_manager.specs.DeskInvariant.{Keeps, IsWaitingUpdate, update_tests};
 
 use crate::fault::DeskFault;
-use crate::waiting::WaitingUpdate;
+use crate::waiting::{BlobWindow, WaitingUpdate};
 use blob_model::{Limits, Place, Refusal};
 use border_hints::{Hints, Ticket};
 use page_store::Pages;
@@ -27,8 +27,8 @@ use std::sync::Arc;
 use tree_geom::PageSize;
 
 /// The size of the last numbered version, in bytes.
-pub(crate) fn size_of_last(window: &Window) -> u64
-    ensures { (limits : Bounds) (b : Blob) → Keeps limits window.now b → result ≡ size_now b }
+pub(crate) fn size_of_last(window: &BlobWindow) -> u64
+    ensures { (limits : Bounds) (b : Blob) → Keeps limits window.now.numbered b → result ≡ size_now b }
 {
     window.stands();
     let waiting = window.waiting();
@@ -51,15 +51,15 @@ fn offset_in(place: Place, size: u64) -> u64
 /// Why the store refuses an update of `len` bytes of this blob: the first of its reasons.
 pub(crate) fn refusal_of_update(
     limits: Limits,
-    window: &Window,
+    window: &BlobWindow,
     place: Place,
     len: u64,
 ) -> Option<Refusal>
-    requires kept { (b : Blob) × Keeps limits window.now b }
+    requires kept { (b : Blob) × Keeps limits window.now.numbered b }
     requires some { 1 ≤ len }
     requires few { len ≤ most_bytes }
-    ensures refusal { (b : Blob) (bytes : List ℕ) → Keeps limits window.now b → length bytes ≡ len → result ≡ first_refusal (update_tests limits b place bytes) }
-    ensures takes { (b : Blob) (bytes : List ℕ) → Keeps limits window.now b → length bytes ≡ len → IfNone result (Takes limits window.now b place bytes) }
+    ensures refusal { (b : Blob) (bytes : List ℕ) → Keeps limits window.now.numbered b → length bytes ≡ len → result ≡ first_refusal (update_tests limits b place bytes) }
+    ensures takes { (b : Blob) (bytes : List ℕ) → Keeps limits window.now.numbered b → length bytes ≡ len → IfNone result (Takes limits window.now.numbered b place bytes) }
 {
     let size = size_of_last(window);
     let at = offset_in(place, size);
@@ -93,33 +93,33 @@ pub(crate) fn ticket_over(
     caller: u32,
     place: Place,
     pages: &Arc<Pages>,
-    window: &Window,
+    window: &BlobWindow,
 ) -> Result<Ticket, DeskFault>
-    requires kept { (b : Blob) × Keeps limits window.now b }
+    requires kept { (b : Blob) × Keeps limits window.now.numbered b }
     requires some { 1 ≤ length (bytes_of_pages (arc_value pages.now).pages) }
     requires few { length (bytes_of_pages (arc_value pages.now).pages) ≤ most_bytes }
-    requires page_size { (arc_value pages.now).page_size ≡ window.now.page_size }
-    ensures refused { (b : Blob) → Keeps limits window.now b
+    requires page_size { (arc_value pages.now).page_size ≡ window.now.numbered.page_size }
+    ensures refused { (b : Blob) → Keeps limits window.now.numbered b
         → IfErr result (λ fault. OnRefused fault (λ refusal. first_refusal (update_tests limits b place (bytes_of_pages (arc_value pages.now).pages)) ≡ Some refusal)) }
-    ensures accepted { (b : Blob) → Keeps limits window.now b → IfOk result (λ _. first_refusal (update_tests limits b place (bytes_of_pages (arc_value pages.now).pages)) ≡ None) }
-    ensures memory { (b : Blob) → Keeps limits window.now b
+    ensures accepted { (b : Blob) → Keeps limits window.now.numbered b → IfOk result (λ _. first_refusal (update_tests limits b place (bytes_of_pages (arc_value pages.now).pages)) ≡ None) }
+    ensures memory { (b : Blob) → Keeps limits window.now.numbered b
         → IfErr result (λ fault. OnNoMemory fault (first_refusal (update_tests limits b place (bytes_of_pages (arc_value pages.now).pages)) ≡ None)) }
-    ensures version { (b : Blob) → Keeps limits window.now b → IfOk result (λ t. t.version ≡ assigned b + 1) }
-    ensures at { (b : Blob) → Keeps limits window.now b → IfOk result (λ t. t.at ≡ offset_of place (size_now b)) }
-    ensures size { (b : Blob) → Keeps limits window.now b → IfOk result (λ t. t.size ≡ size_with b place (bytes_of_pages (arc_value pages.now).pages)) }
+    ensures version { (b : Blob) → Keeps limits window.now.numbered b → IfOk result (λ t. t.version ≡ assigned b + 1) }
+    ensures at { (b : Blob) → Keeps limits window.now.numbered b → IfOk result (λ t. t.at ≡ offset_of place (size_now b)) }
+    ensures size { (b : Blob) → Keeps limits window.now.numbered b → IfOk result (λ t. t.size ≡ size_with b place (bytes_of_pages (arc_value pages.now).pages)) }
     ensures caller { IfOk result (λ t. t.caller ≡ caller) }
-    ensures blob { IfOk result (λ t. t.blob ≡ window.now.blob) }
+    ensures blob { IfOk result (λ t. t.blob ≡ window.now.numbered.blob) }
     ensures len { IfOk result (λ t. t.len ≡ length (bytes_of_pages (arc_value pages.now).pages)) }
     ensures published { IfOk result (λ t. IsVersion t.snapshot) }
-    ensures snapshot { IfOk result (λ t. t.snapshot ≡ version_of window.now) }
-    ensures waiting { IfOk result (λ t. t.waiting ≡ waiting_of window.now) }
+    ensures snapshot { IfOk result (λ t. t.snapshot ≡ version_of window.now.numbered) }
+    ensures waiting { IfOk result (λ t. t.waiting ≡ waiting_of window.now.numbered) }
     ensures pages { IfOk result (λ t. t.pages ≡ arc_value pages.now) }
-    ensures stands { (b : Blob) (u : Update) → Keeps limits window.now b → u.place ≡ place → u.bytes ≡ bytes_of_pages (arc_value pages.now).pages
+    ensures stands { (b : Blob) (u : Update) → Keeps limits window.now.numbered b → u.place ≡ place → u.bytes ≡ bytes_of_pages (arc_value pages.now).pages
         → IfOk result (λ t. IsTicketAmong t (extents (b.updates ++ u ∷ []))) }
-    ensures kept { (b : Blob) (u : Update) → Keeps limits window.now b → u.place ≡ place → u.bytes ≡ bytes_of_pages (arc_value pages.now).pages
-        → IfOk result (λ t. Keeps limits (with_numbered window.now (own_touch t)) (and_update b u)) }
-    ensures few { IfOk result (λ _. length window.now.log < published_of window.now + 64) }
-    ensures room { IfOk result (λ _. length window.now.log < 1048576) }
+    ensures kept { (b : Blob) (u : Update) → Keeps limits window.now.numbered b → u.place ≡ place → u.bytes ≡ bytes_of_pages (arc_value pages.now).pages
+        → IfOk result (λ t. Keeps limits (with_numbered window.now.numbered (own_touch t)) (and_update b u)) }
+    ensures few { IfOk result (λ _. length window.now.numbered.log < published_of window.now.numbered + 64) }
+    ensures room { IfOk result (λ _. length window.now.numbered.log < 1048576) }
 {
     if let Some(refusal) = refusal_of_update(limits, window, place, pages.len()) {
         return Err(DeskFault::Refused(refusal));
@@ -136,20 +136,20 @@ fn next_ticket(
     caller: u32,
     place: Place,
     pages: &Arc<Pages>,
-    window: &Window,
+    window: &BlobWindow,
 ) -> Result<Ticket, NoMemory>
-    requires takes { (limits : Bounds) × (b : Blob) × Takes limits window.now b place (bytes_of_pages (arc_value pages.now).pages) }
-    requires page_size { (arc_value pages.now).page_size ≡ window.now.page_size }
+    requires takes { (limits : Bounds) × (b : Blob) × Takes limits window.now.numbered b place (bytes_of_pages (arc_value pages.now).pages) }
+    requires page_size { (arc_value pages.now).page_size ≡ window.now.numbered.page_size }
     ensures caller { IfOk result (λ t. t.caller ≡ caller) }
-    ensures blob { IfOk result (λ t. t.blob ≡ window.now.blob) }
-    ensures version { IfOk result (λ t. t.version ≡ length window.now.log + 1) }
+    ensures blob { IfOk result (λ t. t.blob ≡ window.now.numbered.blob) }
+    ensures version { IfOk result (λ t. t.version ≡ length window.now.numbered.log + 1) }
     ensures len { IfOk result (λ t. t.len ≡ length (bytes_of_pages (arc_value pages.now).pages)) }
     ensures published { IfOk result (λ t. IsVersion t.snapshot) }
-    ensures snapshot { IfOk result (λ t. t.snapshot ≡ version_of window.now) }
-    ensures waiting { IfOk result (λ t. t.waiting ≡ waiting_of window.now) }
+    ensures snapshot { IfOk result (λ t. t.snapshot ≡ version_of window.now.numbered) }
+    ensures waiting { IfOk result (λ t. t.waiting ≡ waiting_of window.now.numbered) }
     ensures pages { IfOk result (λ t. t.pages ≡ arc_value pages.now) }
-    ensures at { (limits : Bounds) (b : Blob) → Keeps limits window.now b → IfOk result (λ t. t.at ≡ offset_of place (size_now b)) }
-    ensures size { (limits : Bounds) (b : Blob) → Keeps limits window.now b → IfOk result (λ t. t.size ≡ size_with b place (bytes_of_pages (arc_value pages.now).pages)) }
+    ensures at { (limits : Bounds) (b : Blob) → Keeps limits window.now.numbered b → IfOk result (λ t. t.at ≡ offset_of place (size_now b)) }
+    ensures size { (limits : Bounds) (b : Blob) → Keeps limits window.now.numbered b → IfOk result (λ t. t.size ≡ size_with b place (bytes_of_pages (arc_value pages.now).pages)) }
 {
     let size = size_of_last(window);
     let at = offset_in(place, size);
@@ -171,9 +171,9 @@ fn next_ticket(
 }
 
 // What is known of the numbered updates: the published snapshot, and what waits.
-fn hints_of(alloc: Global, window: &Window) -> Result<Hints, NoMemory>
-    ensures snapshot { IfOk result (λ h. h.snapshot ≡ version_of window.now) }
-    ensures waiting { IfOk result (λ h. h.waiting ≡ waiting_of window.now) }
+fn hints_of(alloc: Global, window: &BlobWindow) -> Result<Hints, NoMemory>
+    ensures snapshot { IfOk result (λ h. h.snapshot ≡ version_of window.now.numbered) }
+    ensures waiting { IfOk result (λ h. h.waiting ≡ waiting_of window.now.numbered) }
 {
     Ok(Hints {
         snapshot: published_in(window)?,
@@ -184,20 +184,20 @@ fn hints_of(alloc: Global, window: &Window) -> Result<Hints, NoMemory>
 /// The ticket of a waiting version, as it was numbered, by what is known now of the lower ones.
 pub(crate) fn ticket_again(
     alloc: Global,
-    window: &Window,
+    window: &BlobWindow,
     version: u64,
     update: &WaitingUpdate,
 ) -> Result<Ticket, NoMemory>
-    requires waits { (published_of window.now < version) × (version ≤ length window.now.log) }
-    requires update { (limits : Bounds) × (b : Blob) × (houses : List House) × Keeps limits window.now b × IsWaitingUpdate window.now.page_size houses b.updates version update.now }
+    requires waits { (published_of window.now.numbered < version) × (version ≤ length window.now.numbered.log) }
+    requires update { (limits : Bounds) × (b : Blob) × (houses : List House) × Keeps limits window.now.numbered b × IsWaitingUpdate window.now.numbered.page_size houses b.updates version update.now }
     ensures caller { IfOk result (λ t. t.caller ≡ update.now.caller) }
-    ensures blob { IfOk result (λ t. t.blob ≡ window.now.blob) }
+    ensures blob { IfOk result (λ t. t.blob ≡ window.now.numbered.blob) }
     ensures version { IfOk result (λ t. t.version ≡ version) }
     ensures published { IfOk result (λ t. IsVersion t.snapshot) }
-    ensures snapshot { IfOk result (λ t. t.snapshot ≡ version_of window.now) }
-    ensures waiting { IfOk result (λ t. t.waiting ≡ take (version - published_of window.now - 1) (waiting_of window.now)) }
+    ensures snapshot { IfOk result (λ t. t.snapshot ≡ version_of window.now.numbered) }
+    ensures waiting { IfOk result (λ t. t.waiting ≡ take (version - published_of window.now.numbered - 1) (waiting_of window.now.numbered)) }
     ensures pages { IfOk result (λ t. t.pages ≡ arc_value update.now.pages) }
-    ensures stands { (limits : Bounds) (b : Blob) (houses : List House) → Keeps limits window.now b → IsWaitingUpdate window.now.page_size houses b.updates version update.now
+    ensures stands { (limits : Bounds) (b : Blob) (houses : List House) → Keeps limits window.now.numbered b → IsWaitingUpdate window.now.numbered.page_size houses b.updates version update.now
         → IfOk result (λ t. IsTicketAmong t (extents (take version b.updates))) }
 {
     window.stands();
@@ -223,17 +223,18 @@ pub(crate) fn ticket_again(
 }
 
 // The published snapshot.
-fn published_in(window: &Window) -> Result<Snapshot, NoMemory>
-    ensures { IfOk result (λ s. s ≡ version_of window.now) }
+fn published_in(window: &BlobWindow) -> Result<Snapshot, NoMemory>
+    ensures { IfOk result (λ s. s ≡ version_of window.now.numbered) }
 {
     let snapshot = window.snapshot();
     snapshot.at(snapshot.version())
 }
 
 /// The window of a new blob.
-pub(crate) fn first_in(alloc: Global, id: u64, p: PageSize) -> Result<Window, NoMemory>
-    ensures new { IfOk result (λ w. w ≡ window_on record { blob = id; page_size = p; rows = [] }) }
-    ensures kept { (limits : Bounds) → IfOk result (λ w. Keeps limits w record { updates = []; finished = [] }) }
+pub(crate) fn first_in(alloc: Global, id: u64, p: PageSize) -> Result<BlobWindow, NoMemory>
+    ensures new { IfOk result (λ w. w.numbered ≡ window_on record { blob = id; page_size = p; rows = [] }) }
+    ensures none { IfOk result (λ w. w.updates ≡ []) }
+    ensures kept { (limits : Bounds) → IfOk result (λ w. Keeps limits w.numbered record { updates = []; finished = [] }) }
 {
     Window::new(alloc, Snapshot::empty(alloc, id, p)?)
 }
@@ -241,13 +242,14 @@ pub(crate) fn first_in(alloc: Global, id: u64, p: PageSize) -> Result<Window, No
 /// The window of a blob that shares the versions of this one up to a published one.
 pub(crate) fn branch_in(
     alloc: Global,
-    window: &Window,
+    window: &BlobWindow,
     new_id: u64,
     version: u64,
-) -> Result<Window, NoMemory>
-    requires { version ≤ published_of window.now }
-    ensures new { IfOk result (λ w. w ≡ window_on (under_blob (older_version (version_of window.now) version) new_id)) }
-    ensures kept { (limits : Bounds) (b : Blob) → Keeps limits window.now b → IfOk result (λ w. Keeps limits w (branch_of b version)) }
+) -> Result<BlobWindow, NoMemory>
+    requires { version ≤ published_of window.now.numbered }
+    ensures new { IfOk result (λ w. w.numbered ≡ window_on (under_blob (older_version (version_of window.now.numbered) version) new_id)) }
+    ensures none { IfOk result (λ w. w.updates ≡ []) }
+    ensures kept { (limits : Bounds) (b : Blob) → Keeps limits window.now.numbered b → IfOk result (λ w. Keeps limits w.numbered (branch_of b version)) }
 {
     window.stands();
     let shared = window.snapshot_at(version)?;

@@ -24,12 +24,12 @@ use crate::entry::{Change, Entry};
 use crate::fault::{DeskFault, OpenFault};
 use crate::look::Look;
 use crate::looks::{look_in, no_ticket, snapshot_in};
-use crate::waiting::{WaitingList, WaitingUpdate};
+use crate::waiting::{BlobWindow, WaitingUpdate};
 use blob_model::{Limits, Outcome, Place, Refusal};
 use border_hints::Ticket;
 use node_store::{NodeHouse, Row};
 use page_store::{Houses, Pages};
-use publisher::{NoMemory, Window};
+use publisher::NoMemory;
 use snapshot::Snapshot;
 use std::alloc::Global;
 use std::marker::Model;
@@ -52,9 +52,7 @@ pub struct Desk {
     houses: Arc<Houses>,
     nodes: Arc<NodeHouse>,
     history: Vec<Entry>,
-    windows: Vec<Window>,
-    // for each blob how those of its updates were numbered that aren't published
-    waiting: Vec<WaitingList>,
+    windows: Vec<BlobWindow>,
 }
 
 // By hand, so that it is one call wherever a desk is let go: a derived drop stands, with all its calls, at each such place.
@@ -68,7 +66,6 @@ impl Drop for Desk {
             nodes: _,
             history: _,
             windows: _,
-            waiting: _,
         } = self;
     }
 }
@@ -78,7 +75,7 @@ impl Model for Desk {
     ghost use Rattle.std.specs.Arc.{arc_value};
     ghost use Rattle.version_manager.specs.Desks.{DeskState};
     ghost use Rattle.version_manager.specs.Entries.{event_of};
-    ghost use Rattle.version_manager.specs.DeskInvariant.{IsDesk};
+    ghost use Rattle.version_manager.specs.DeskInvariant.{IsDesk, numbered_of};
 
     ghost Value = { DeskState };
 
@@ -88,10 +85,10 @@ impl Model for Desk {
       houses = arc_value d.houses;
       nodes = arc_value d.nodes;
       history = map event_of d.history.items;
-      windows = d.windows.items;
+      windows = numbered_of d.windows.items;
     } };
 
-    ghost invariant = { λ d. IsDesk d.limits d.page_size (arc_value d.houses) (arc_value d.nodes) (map event_of d.history.items) d.windows.items d.waiting.items };
+    ghost invariant = { λ d. IsDesk d.limits d.page_size (arc_value d.houses) (arc_value d.nodes) (map event_of d.history.items) d.windows.items };
 }
 
 impl Desk {
@@ -114,7 +111,6 @@ impl Desk {
             nodes: Arc::try_clone(nodes)?,
             history: Vec::new(alloc),
             windows: Vec::new(alloc),
-            waiting: Vec::new(alloc),
         })
     }
 
@@ -176,15 +172,7 @@ impl Desk {
             caller,
             change: Change::Create,
         };
-        let none = WaitingList::new(self.alloc);
-        let Ok(()) = add(
-            &mut self.history,
-            &mut self.windows,
-            &mut self.waiting,
-            entry,
-            window,
-            none,
-        ) else {
+        let Ok(()) = add(&mut self.history, &mut self.windows, entry, window) else {
             return Err(DeskFault::NoMemory);
         };
         Ok(blob)
@@ -235,14 +223,13 @@ impl Desk {
             at: ticket.at(),
             pages: kept,
         };
-        let Ok(()) = self.waiting[index].add(update) else {
+        let Ok(_version) = self.windows[index].number(ticket.touch(), update) else {
             return Err(DeskFault::NoMemory);
         };
         self.history.push_reserved(Entry {
             caller,
             change: Change::Assign { blob, place, pages },
         });
-        self.windows[index].number(ticket.touch());
         Ok(ticket)
     }
 
@@ -282,11 +269,8 @@ impl Desk {
         let Ok(()) = make_room(&mut self.history) else {
             return Err((DeskFault::NoMemory, row));
         };
-        let before = window.published();
         match self.windows[index].finish(version, row) {
             Ok(published) => {
-                let passed = (published - before) as usize;
-                self.waiting[index].drop_first(passed);
                 self.history.push_reserved(Entry {
                     caller,
                     change: Change::Finish { blob, version },
@@ -329,15 +313,7 @@ impl Desk {
             caller,
             change: Change::Branch { blob, version },
         };
-        let none = WaitingList::new(self.alloc);
-        let Ok(()) = add(
-            &mut self.history,
-            &mut self.windows,
-            &mut self.waiting,
-            entry,
-            window,
-            none,
-        ) else {
+        let Ok(()) = add(&mut self.history, &mut self.windows, entry, window) else {
             return Err(DeskFault::NoMemory);
         };
         Ok(id)
@@ -388,7 +364,7 @@ impl Desk {
         if let Some(refusal) = no_ticket(window, version) {
             return Err(DeskFault::Refused(refusal));
         }
-        let update = self.waiting[index].at(window.place(version));
+        let update = window.update_at(version);
         match ticket_again(self.alloc, window, version, update) {
             Ok(ticket) => Ok(ticket),
             Err(NoMemory) => Err(DeskFault::NoMemory),
@@ -447,7 +423,7 @@ impl Desk {
 }
 
 // The index of a blob's window, if the blob is there.
-fn index_of(windows: &Vec<Window>, blob: u64) -> Option<usize>
+fn index_of(windows: &Vec<BlobWindow>, blob: u64) -> Option<usize>
     ensures { MatchOption result (1 ≤ blob → vec_len windows.now < blob) (λ index. (index ≡ blob - 1) × (1 ≤ blob) × (blob ≤ vec_len windows.now)) }
 {
     if blob == 0 || blob > windows.len() as u64 {
@@ -478,27 +454,21 @@ fn make_room(history: &mut Vec<Entry>) -> Result<(), NoMemory>
     Ok(())
 }
 
-// Adds the window of a new blob, of which no update waits, and the entry of its making.
+// Adds the window of a new blob, and the entry of its making.
 fn add(
     history: &mut Vec<Entry>,
-    windows: &mut Vec<Window>,
-    waiting: &mut Vec<WaitingList>,
+    windows: &mut Vec<BlobWindow>,
     entry: Entry,
-    window: Window,
-    none: WaitingList,
+    window: BlobWindow,
 ) -> Result<(), NoMemory>
     ensures history { OnOk result (history.new.items ≡ history.old.items ++ entry ∷ []) }
     ensures windows { OnOk result (windows.new.items ≡ windows.old.items ++ window ∷ []) }
-    ensures waiting { OnOk result (waiting.new.items ≡ waiting.old.items ++ none ∷ []) }
     ensures same_history { OnErr result (history.new.items ≡ history.old.items) }
     ensures same_windows { OnErr result (windows.new.items ≡ windows.old.items) }
-    ensures same_waiting { OnErr result (waiting.new.items ≡ waiting.old.items) }
     ensures short { OnOk result (length history.old.items + 1 < 2 ^ 38) }
 {
     make_room(history)?;
-    windows.reserve(1)?;
-    waiting.push(none)?;
-    windows.push_reserved(window);
+    windows.push(window)?;
     history.push_reserved(entry);
     Ok(())
 }

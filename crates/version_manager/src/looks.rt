@@ -14,14 +14,15 @@ ghost use Rattle.version_manager.specs.Looks.{look_call};
 
 use crate::fault::OpenFault;
 use crate::look::Look;
+use crate::waiting::BlobWindow;
 use blob_model::{Outcome, Refusal};
-use publisher::{NoMemory, Window};
+use publisher::NoMemory;
 use snapshot::Snapshot;
 
 // Why a look at that version is refused, if it is: it isn't published.
-fn unpublished(window: &Window, version: u64) -> Option<Refusal>
-    ensures refusal { (limits : Bounds) (b : Blob) → Keeps limits window.now b → result ≡ first_refusal (not_published b version ∷ []) }
-    ensures published { IfNone result (version ≤ published_of window.now) }
+fn unpublished(window: &BlobWindow, version: u64) -> Option<Refusal>
+    ensures refusal { (limits : Bounds) (b : Blob) → Keeps limits window.now.numbered b → result ≡ first_refusal (not_published b version ∷ []) }
+    ensures published { IfNone result (version ≤ published_of window.now.numbered) }
 {
     let published = window.published();
     if version > published {
@@ -32,9 +33,9 @@ fn unpublished(window: &Window, version: u64) -> Option<Refusal>
 }
 
 /// Why there is no ticket of that version now, if so: it was never numbered, or it is finished.
-pub(crate) fn no_ticket(window: &Window, version: u64) -> Option<Refusal>
-    ensures refusal { (limits : Bounds) (b : Blob) → Keeps limits window.now b → result ≡ first_refusal (not_numbered b version ∷ already b version ∷ []) }
-    ensures waits { IfNone result ((published_of window.now < version) × (version ≤ length window.now.log)) }
+pub(crate) fn no_ticket(window: &BlobWindow, version: u64) -> Option<Refusal>
+    ensures refusal { (limits : Bounds) (b : Blob) → Keeps limits window.now.numbered b → result ≡ first_refusal (not_numbered b version ∷ already b version ∷ []) }
+    ensures waits { IfNone result ((published_of window.now.numbered < version) × (version ≤ length window.now.numbered.log)) }
 {
     let published = window.published();
     if window.assigned() < version {
@@ -47,8 +48,8 @@ pub(crate) fn no_ticket(window: &Window, version: u64) -> Option<Refusal>
 }
 
 // The least unfinished version, or 0 where nothing waits.
-fn held_by(window: &Window) -> u64
-    ensures { (limits : Bounds) (b : Blob) → Keeps limits window.now b → result ≡ held b }
+fn held_by(window: &BlobWindow) -> u64
+    ensures { (limits : Bounds) (b : Blob) → Keeps limits window.now.numbered b → result ≡ held b }
 {
     let published = window.published();
     if published == window.assigned() {
@@ -59,8 +60,8 @@ fn held_by(window: &Window) -> u64
 }
 
 // Why a sync of that version is refused, if it is: it was never numbered, or it waits.
-fn unsynced(window: &Window, version: u64) -> Option<Refusal>
-    ensures { (limits : Bounds) (b : Blob) → Keeps limits window.now b → result ≡ first_refusal (not_numbered b version ∷ pending b version ∷ []) }
+fn unsynced(window: &BlobWindow, version: u64) -> Option<Refusal>
+    ensures { (limits : Bounds) (b : Blob) → Keeps limits window.now.numbered b → result ≡ first_refusal (not_numbered b version ∷ pending b version ∷ []) }
 {
     let published = window.published();
     if version > window.assigned() {
@@ -76,8 +77,8 @@ fn unsynced(window: &Window, version: u64) -> Option<Refusal>
 }
 
 /// What the store answers to a look at the blob that this is the window of.
-pub(crate) fn look_in(window: &Window, look: Look) -> Outcome
-    ensures { (limits : Bounds) (s : Store) (caller blob : ℕ) (b : Blob) → blob_at s blob ≡ Some b → Keeps limits window.now b
+pub(crate) fn look_in(window: &BlobWindow, look: Look) -> Outcome
+    ensures { (limits : Bounds) (s : Store) (caller blob : ℕ) (b : Blob) → blob_at s blob ≡ Some b → Keeps limits window.now.numbered b
         → result ≡ (answer s caller (look_call look blob)).1 }
 {
     window.stands();
@@ -106,14 +107,14 @@ pub(crate) fn look_in(window: &Window, look: Look) -> Outcome
 }
 
 /// The snapshot of a published version. Where memory is refused it tells the version's size.
-pub(crate) fn snapshot_in(window: &Window, version: u64) -> Result<Snapshot, OpenFault>
-    ensures size { (limits : Bounds) (s : Store) (b : Blob) → Keeps limits window.now b
+pub(crate) fn snapshot_in(window: &BlobWindow, version: u64) -> Result<Snapshot, OpenFault>
+    ensures size { (limits : Bounds) (s : Store) (b : Blob) → Keeps limits window.now.numbered b
         → IfOk result (λ x. (unless_refused s (not_published b version ∷ []) (s, Outcomes.Size (size_of b.updates version))).1 ≡ Outcomes.Size (size_now x)) }
-    ensures not_opened { (limits : Bounds) (s : Store) (b : Blob) → Keeps limits window.now b
+    ensures not_opened { (limits : Bounds) (s : Store) (b : Blob) → Keeps limits window.now.numbered b
         → IfErr result (λ fault. (unless_refused s (not_published b version ∷ []) (s, Outcomes.Size (size_of b.updates version))).1 ≡ unopened_size fault) }
-    ensures this { IfOk result (λ x. x ≡ older_version (version_of window.now) version) }
+    ensures this { IfOk result (λ x. x ≡ older_version (version_of window.now.numbered) version) }
     ensures version { IfOk result (λ x. length x.rows ≡ version) }
-    ensures tells { (limits : Bounds) (b : Blob) → Keeps limits window.now b → IfOk result (λ x. TellUpdates window.now.page_size b.updates x.rows) }
+    ensures tells { (limits : Bounds) (b : Blob) → Keeps limits window.now.numbered b → IfOk result (λ x. TellUpdates window.now.numbered.page_size b.updates x.rows) }
 {
     window.stands();
     if let Some(refusal) = unpublished(window, version) {

@@ -3,7 +3,7 @@ use Rattle.std.specs.Arc.{arc_value}
 use Rattle.blob_model.specs.Content.{offset_of}
 use Rattle.page_store.specs.Stored.{Cut, bytes_of_pages}
 use Rattle.version_manager.proofs.BlobsTests.{end_is}
-use Rattle.version_manager.proofs.BlobsNext.{hints_tell}
+use Rattle.version_manager.proofs.Reissuing.{tell_all, size_all}
 use Rattle.version_manager.proofs.blob.next_ticket.Goals as goal
 
 pub overflow_add-at : goal.overflow_add-at
@@ -20,19 +20,19 @@ pub of-requires-clause-waiting : goal.of-requires-clause-waiting
 of-requires-clause-waiting c =
     let may = c.requires.takes.2 in
     let h = c.in_ok-hints.ensures in
-    (hints_tell _ _ _ _ _ may.kept may.even h.snapshot h.waiting c.stands.ensures).first
+    (tell_all _ _ _ _ _ may.kept may.even h.snapshot h.waiting c.stands.ensures).first
 
 pub of-requires-clause-version : goal.of-requires-clause-version
 of-requires-clause-version c =
     let may = c.requires.takes.2 in
     let h = c.in_ok-hints.ensures in
-    omega (arith, (hints_tell _ _ _ _ _ may.kept may.even h.snapshot h.waiting c.stands.ensures).count)
+    omega (arith, (tell_all _ _ _ _ _ may.kept may.even h.snapshot h.waiting c.stands.ensures).count)
 
 pub of-requires-clause-of_updates : goal.of-requires-clause-of_updates
 of-requires-clause-of_updates c =
     let may = c.requires.takes.2 in
     let h = c.in_ok-hints.ensures in
-    (hints_tell _ _ _ _ _ may.kept may.even h.snapshot h.waiting c.stands.ensures).log
+    (tell_all _ _ _ _ _ may.kept may.even h.snapshot h.waiting c.stands.ensures).log
 
 pub of-requires-clause-at : goal.of-requires-clause-at
 of-requires-clause-at c =
@@ -40,10 +40,10 @@ of-requires-clause-at c =
     let b = c.requires.takes.1 in
     let may = c.requires.takes.2 in
     let h = c.in_ok-hints.ensures in
-    let told = hints_tell limits c.args.window.now b _ _ may.kept may.even h.snapshot h.waiting c.stands.ensures in
+    let size = size_all limits c.args.window.now.numbered b _ _ may.kept may.even h.snapshot h.waiting c.stands.ensures (c.assigned.result + 1 - 1) (omega arith) in
     let s = c.size_of_last-size.ensures limits b may.kept in
     let at = c.offset_in-at.ensures ∙ ap (offset_of c.args.place) s in
-    omega (arith, told.size (c.assigned.result + 1 - 1) (omega arith), may.begins, at)
+    omega (arith, size, may.begins, at)
 
 pub of-requires-clause-size : goal.of-requires-clause-size
 of-requires-clause-size c =
@@ -51,8 +51,8 @@ of-requires-clause-size c =
     let b = c.requires.takes.1 in
     let may = c.requires.takes.2 in
     let h = c.in_ok-hints.ensures in
-    let told = hints_tell limits c.args.window.now b _ _ may.kept may.even h.snapshot h.waiting c.stands.ensures in
-    omega (arith, told.size (c.assigned.result + 1 - 1) (omega arith), c.size_of_last-size.ensures limits b may.kept)
+    let size = size_all limits c.args.window.now.numbered b _ _ may.kept may.even h.snapshot h.waiting c.stands.ensures (c.assigned.result + 1 - 1) (omega arith) in
+    omega (arith, size, c.size_of_last-size.ensures limits b may.kept)
 
 pub of-requires-clause-fits : goal.of-requires-clause-fits
 of-requires-clause-fits c =

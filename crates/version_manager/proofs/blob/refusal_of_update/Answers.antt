@@ -25,11 +25,11 @@ returns-then-assigned-limits-clause-refusal c b bytes k n =
     let size = ap (λ (l : Bounds). l.max_size) c.limits.view_is in
     refused_versions c.args.limits b c.args.place bytes c.size_of_last-size.result c.offset_in-at.result c.args.len (c.size_of_last-size.ensures c.args.limits b k) c.offset_in-at.ensures n
     c.max-end.result c.limits.inside.max_versions (ap (λ (l : Bounds). l.max_versions) c.limits.view_is) c.max-end.ensures c.if-at-size.false (omega (arith, size))
-    (sym (assigned_is c.args.limits c.args.window.now b k) ∙ sym c.assigned.ensures.log ∙ c.if-assigned-limits.true)
+    (sym (assigned_is c.args.limits c.args.window.now.numbered b k) ∙ sym c.assigned.ensures.log ∙ c.if-assigned-limits.true)
 
 pub returns-then-from-limits-clause-refusal : goal.returns-then-from-limits-clause-refusal
 returns-then-from-limits-clause-refusal c b bytes k n =
-    let w = c.args.window.now in
+    let w = c.args.window.now.numbered in
     let size = ap (λ (l : Bounds). l.max_size) c.limits.view_is in
     let versions = ap (λ (l : Bounds). l.max_versions) c.limits.view_is in
     let all = assigned_is c.args.limits w b k in
@@ -40,7 +40,7 @@ returns-then-from-limits-clause-refusal c b bytes k n =
 
 pub returns-clause-refusal : goal.returns-clause-refusal
 returns-clause-refusal c b bytes k n =
-    let w = c.args.window.now in
+    let w = c.args.window.now.numbered in
     let size = ap (λ (l : Bounds). l.max_size) c.limits.view_is in
     let versions = ap (λ (l : Bounds). l.max_versions) c.limits.view_is in
     let open' = ap (λ (l : Bounds). l.max_open) c.limits.view_is in
@@ -52,7 +52,7 @@ returns-clause-refusal c b bytes k n =
 
 pub returns-clause-takes : goal.returns-clause-takes
 returns-clause-takes c b bytes k n =
-    let w = c.args.window.now in
+    let w = c.args.window.now.numbered in
     let s = c.size_of_last-size.ensures c.args.limits b k in
     let size = ap (λ (l : Bounds). l.max_size) c.limits.view_is in
     let versions = ap (λ (l : Bounds). l.max_versions) c.limits.view_is in

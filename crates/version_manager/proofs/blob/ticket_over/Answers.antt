@@ -16,7 +16,7 @@ returns-in-Ok-clause-size c b k = c.in-Ok.ensures.size c.args.limits b k
 pub returns-in-Ok-clause-stands : goal.returns-in-Ok-clause-stands
 returns-in-Ok-clause-stands c b u k place bytes =
     let limits = c.args.limits in
-    let w = c.args.window.now in
+    let w = c.args.window.now.numbered in
     let t = c.in-Ok.ticket in
     let all = bytes_of_pages (arc_value c.args.pages.now).pages in
     let may = takes_as limits w b u c.args.place all place bytes (c.in_default.ensures.takes b all k (sym (c.len.ensures ∙ ap (λ (x : Cut). length (bytes_of_pages x.pages)) c.deref.ensures))) in
@@ -27,7 +27,7 @@ returns-in-Ok-clause-stands c b u k place bytes =
 pub returns-in-Ok-clause-kept : goal.returns-in-Ok-clause-kept
 returns-in-Ok-clause-kept c b u k place bytes =
     let limits = c.args.limits in
-    let w = c.args.window.now in
+    let w = c.args.window.now.numbered in
     let t = c.in-Ok.ticket in
     let all = bytes_of_pages (arc_value c.args.pages.now).pages in
     let may = takes_as limits w b u c.args.place all place bytes (c.in_default.ensures.takes b all k (sym (c.len.ensures ∙ ap (λ (x : Cut). length (bytes_of_pages x.pages)) c.deref.ensures))) in
@@ -40,11 +40,11 @@ returns-in-Ok-clause-few c =
     let b = c.requires.kept.0 in
     let k = c.requires.kept.1 in
     let may = c.in_default.ensures.takes b (bytes_of_pages (arc_value c.args.pages.now).pages) k (sym (c.len.ensures ∙ ap (λ (x : Cut). length (bytes_of_pages x.pages)) c.deref.ensures)) in
-    omega (arith, may.waits, may.bounds.waiting, assigned_is c.args.limits c.args.window.now b k, published_is c.args.limits c.args.window.now b k)
+    omega (arith, may.waits, may.bounds.waiting, assigned_is c.args.limits c.args.window.now.numbered b k, published_is c.args.limits c.args.window.now.numbered b k)
 
 pub returns-in-Ok-clause-room : goal.returns-in-Ok-clause-room
 returns-in-Ok-clause-room c =
     let b = c.requires.kept.0 in
     let k = c.requires.kept.1 in
     let may = c.in_default.ensures.takes b (bytes_of_pages (arc_value c.args.pages.now).pages) k (sym (c.len.ensures ∙ ap (λ (x : Cut). length (bytes_of_pages x.pages)) c.deref.ensures)) in
-    omega (arith, may.versions, may.bounds.versions, assigned_is c.args.limits c.args.window.now b k)
+    omega (arith, may.versions, may.bounds.versions, assigned_is c.args.limits c.args.window.now.numbered b k)

@@ -11,7 +11,7 @@ use Rattle.version_manager.proofs.looks.look_in.Goals as goal
 
 pub returns-in-Recent : goal.returns-in-Recent
 returns-in-Recent c limits s caller blob b at k =
-    let w = c.args.window.now in
+    let w = c.args.window.now.numbered in
     let is = subst IsVersion c.snapshot-snapshot.ensures c.version.ensures.stands in
     let version : c.version.result ≡ published b = c.version.ensures.count ∙ ap (λ (x : Version). length x.rows) c.snapshot-snapshot.ensures ∙ leads limits w b k (omega arith) ∙ published_is limits w b k in
     let size : c.size.result ≡ size_of b.updates (published b) =
@@ -19,7 +19,7 @@ returns-in-Recent c limits s caller blob b at k =
     rw (c.in-Recent.is, at, in_blob) (cc)
 
 pub size_at-requires : goal.size_at-requires
-size_at-requires c = omega (arith, c.in-None.ensures.published, published_counts c.args.window.now.rows, ap (λ (x : Version). length x.rows) c.snapshot.ensures)
+size_at-requires c = omega (arith, c.in-None.ensures.published, published_counts c.args.window.now.numbered.rows, ap (λ (x : Version). length x.rows) c.snapshot.ensures)
 
 pub returns-in-Some : goal.returns-in-Some
 returns-in-Some c limits s caller blob b at k =
@@ -29,7 +29,7 @@ returns-in-Some c limits s caller blob b at k =
 pub returns-in-None : goal.returns-in-None
 returns-in-None c limits s caller blob b at k =
     let v = c.in-Size.version in
-    let w = c.args.window.now in
+    let w = c.args.window.now.numbered in
     let is = c.stands.ensures.version in
     let size : c.size_at.result ≡ size_of b.updates v =
     c.size_at.ensures.size
@@ -49,7 +49,7 @@ returns-in-None-unsynced c limits s caller blob b at k =
 
 pub returns-in-Status : goal.returns-in-Status
 returns-in-Status c limits s caller blob b at k =
-    let w = c.args.window.now in
+    let w = c.args.window.now.numbered in
     let all : c.assigned.result ≡ assigned b = c.assigned.ensures.log ∙ assigned_is limits w b k in
     let done : c.published.result ≡ published b = c.published.ensures ∙ published_is limits w b k in
     let held_is = c.held_by.ensures limits b k in

@@ -9,7 +9,7 @@ pub returns-else-is_finished-clause-waits : goal.returns-else-is_finished-clause
 returns-else-is_finished-clause-waits c = elim c.if-version-eq0.branch [
   | then-version-eq0 w ↦ absurd (true≢false (sym (eq-eqb c.args.version 0 w.if-version-eq0.true) ∙ sym w.value-is ∙ c.if-is_finished.false))
   | else-version-eq0 w ↦ (
-    unfinished_above c.args.window.now c.args.version (omega (arith, w.if-version-eq0.false)) (sym w.is_finished.ensures ∙ sym w.value-is ∙ c.if-is_finished.false),
+    unfinished_above c.args.window.now.numbered c.args.version (omega (arith, w.if-version-eq0.false)) (sym w.is_finished.ensures ∙ sym w.value-is ∙ c.if-is_finished.false),
     omega (arith, c.assigned.ensures.log, c.if-assigned-version.false),
   )
 ]

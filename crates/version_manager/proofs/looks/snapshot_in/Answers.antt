@@ -12,7 +12,7 @@ use Rattle.version_manager.proofs.BlobsTests.{refused_is, done_is}
 use Rattle.version_manager.proofs.looks.snapshot_in.Goals as goal
 
 pub size_at-requires : goal.size_at-requires
-size_at-requires c = omega (arith, c.in_default.ensures.published, published_counts c.args.window.now.rows, ap (λ (s : Version). length s.rows) c.snapshot.ensures)
+size_at-requires c = omega (arith, c.in_default.ensures.published, published_counts c.args.window.now.numbered.rows, ap (λ (s : Version). length s.rows) c.snapshot.ensures)
 
 pub returns-in-Some-clause-not_opened : goal.returns-in-Some-clause-not_opened
 returns-in-Some-clause-not_opened c limits s b k =
@@ -23,16 +23,16 @@ returns-in-Ok-clause-size c limits s b k =
     let v = c.args.version in
     let is = c.stands.ensures.version in
     sym (done_is s (not_published b v ∷ []) (s, Outcomes.Size (size_of b.updates v)) (c.in_default.ensures.refusal limits b k))
-    ∙ ap Outcomes.Size (sym (older_size limits c.args.window.now b k (omega arith) is v c.in_default.ensures.published) ∙ sym (ap size_now c.in-Ok.ensures))
+    ∙ ap Outcomes.Size (sym (older_size limits c.args.window.now.numbered b k (omega arith) is v c.in_default.ensures.published) ∙ sym (ap size_now c.in-Ok.ensures))
 
 pub returns-in-Ok-clause-version : goal.returns-in-Ok-clause-version
 returns-in-Ok-clause-version c =
-    let w = c.args.window.now in
+    let w = c.args.window.now.numbered in
     ap (λ (s : Version). length s.rows) c.in-Ok.ensures ∙ length-take-le c.args.version (leading w.rows) (omega (arith, c.in_default.ensures.published, published_counts w.rows))
 
 pub returns-in-Ok-clause-tells : goal.returns-in-Ok-clause-tells
 returns-in-Ok-clause-tells c limits b k =
-    let w = c.args.window.now in
+    let w = c.args.window.now.numbered in
     let is = c.stands.ensures.version in
     let P : Version → Type 0 = λ s. TellUpdates w.page_size b.updates s.rows in
     subst P (sym c.in-Ok.ensures) (tells limits w b k (omega arith) is c.args.version c.in_default.ensures.published)
@@ -40,7 +40,7 @@ returns-in-Ok-clause-tells c limits b k =
 pub returns-in-Err-clause-not_opened : goal.returns-in-Err-clause-not_opened
 returns-in-Err-clause-not_opened c limits s b k =
     let v = c.args.version in
-    let w = c.args.window.now in
+    let w = c.args.window.now.numbered in
     let is = c.stands.ensures.version in
     sym
     (ap Outcomes.Size

@@ -9,7 +9,7 @@ use Rattle.version_manager.proofs.looks.unsynced.Goals as goal
 
 pub returns-then-version-published : goal.returns-then-version-published
 returns-then-version-published c limits b k =
-    let w = c.args.window.now in
+    let w = c.args.window.now.numbered in
     let v = c.args.version in
     let all = assigned_is limits w b k in
     let done = published_is limits w b k in

@@ -7,7 +7,7 @@ use Rattle.tree_tests.proofs.blob.Blob.finish.Goals as goal
 
 pub finish-requires-clause-own : goal.finish-requires-clause-own
 finish-requires-clause-own g c =
-    let b : OneBlob = blob_of c.self.inside.nodes c.self.inside.window c.self.inside.touches.items c.self.inside.begun.items in
+    let b : OneBlob = blob_of c.self.inside.nodes c.self.inside.window.numbered c.self.inside.touches.items c.self.inside.begun.items in
     let t = c.ticket-ticket.result in
     let row = arc_value c.put-row.result in
     let T : OneBlob → Type 0 = λ x. IsTicketOf x t in
@@ -25,7 +25,7 @@ finish-requires-clause-own g c =
 
 pub invariant_of-self : goal.invariant_of-self
 invariant_of-self g c =
-    let b : OneBlob = blob_of c.self.inside.nodes c.self.inside.window c.self.inside.touches.items c.self.inside.begun.items in
+    let b : OneBlob = blob_of c.self.inside.nodes c.self.inside.window.numbered c.self.inside.touches.items c.self.inside.begun.items in
     let t = c.ticket-ticket.result in
     let row = arc_value c.put-row.result in
     let v = c.version-version.result in
@@ -37,6 +37,6 @@ invariant_of-self g c =
     let nodes = c.put-row.ensures.nodes ∙ plan.nodes in
     let own = own_row c.stored_rows_are_rows.ensures c.rows_stay.ensures.more b t row k c.version-version.ensures.stands c.put-row.ensures.version c.put-row.ensures.offset c.put-row.ensures.touch c.put-row.ensures.pages nodes c.put-row.ensures.folds (sym plan.folded ∙ none) in
     let V : ℕ → Type 0 = λ n. IsRowOf b.window.page_size (updates_in b) n row in
-    still_blob c.windows_stand.ensures.finished b c.self.invariant v row c.finish.new.self (omega (arith, c.version-version.ensures.version, k.some))
+    still_blob c.windows_stand.ensures.finished b c.self.invariant v row c.finish.new.self.numbered (omega (arith, c.version-version.ensures.version, k.some))
     (omega (arith, c.version-version.ensures.version, k.numbered, is_counted b c.self.invariant)) (subst V (sym c.version-version.ensures.version) own) c.put-row.ensures.here
-    (finished_or_not c.finish.result c.finish.new.self b.window v row _ c.finish.ensures.finished c.finish.ensures.same)
+    (finished_or_not c.finish.result c.finish.new.self c.self.inside.window v row _ c.finish.ensures.finished c.finish.ensures.same)

@@ -13,7 +13,7 @@ use Rattle.tree_tests.proofs.blob.Blob.ticket.Goals as goal
 
 pub of-requires : goal.of-requires
 of-requires g c =
-    let b : OneBlob = blob_of c.self.inside.nodes c.self.inside.window c.self.inside.touches.items c.self.inside.begun.items in
+    let b : OneBlob = blob_of c.self.inside.nodes c.self.inside.window.numbered c.self.inside.touches.items c.self.inside.begun.items in
     let i : ℕ = c.args.version - 1 in
     let s : Start = record { at = c.begun.inside.at; pages = arc_value c.begun.inside.pages } in
     let O : Start → Type 0 = λ x. x ≡ slice_index_or c.self.inside.begun.items i x in
@@ -43,7 +43,7 @@ of-requires g c =
 
 pub returns : goal.returns
 returns g c =
-    let b : OneBlob = blob_of c.self.inside.nodes c.self.inside.window c.self.inside.touches.items c.self.inside.begun.items in
+    let b : OneBlob = blob_of c.self.inside.nodes c.self.inside.window.numbered c.self.inside.touches.items c.self.inside.begun.items in
     let i : ℕ = c.args.version - 1 in
     let s : Start = record { at = c.begun.inside.at; pages = arc_value c.begun.inside.pages } in
     let O : Start → Type 0 = λ x. x ≡ slice_index_or c.self.inside.begun.items i x in
