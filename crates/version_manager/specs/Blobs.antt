@@ -17,3 +17,9 @@ pub record Takes (limits : Bounds) (w : Numbered) (b : Blob) (place : Place) (by
   pub fits : size_with b place bytes ≤ limits.max_size
   pub versions : assigned b < limits.max_versions
   pub waits : waiting b < limits.max_open
+
+-- the update falls at that byte, and leaves the blob that size
+pub record Falls (limits : Bounds) (w : Numbered) (b : Blob) (place : Place) (bytes : List ℕ) (at size : ℕ) : Type 0 where
+  pub takes : Takes limits w b place bytes
+  pub at_is : at ≡ offset_of place (size_now b)
+  pub size_is : size ≡ size_with b place bytes

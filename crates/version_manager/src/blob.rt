@@ -1,10 +1,11 @@
 // One blob's changes, each on its window alone. What a clause says of a blob holds of each one that the window keeps.
-ghost use Rattle.std.specs.Prelude.{◌≡◌, ℕ, ◌+◌, ◌-◌, ◌^◌, ◌<◌, ◌≤◌, List, [], ◌∷◌, ◌++◌, length, take, Some, None, IfOk, IfErr, IfNone};
+ghost use Rattle.std.specs.Prelude.{◌≡◌, ℕ, ◌+◌, ◌-◌, ◌^◌, ◌<◌, ◌≤◌, List, [], ◌∷◌, ◌++◌, length, take, Some, None, IfOk, IfErr};
 ghost use Rattle.std.specs.Arc.{arc_value};
 ghost use Rattle.blob_model.specs.Content.{Update, offset_of};
 ghost use Rattle.blob_model.specs.Limits.{Bounds};
 ghost use Rattle.blob_model.specs.Store.{Store, Blob, assigned, size_now, size_with, and_update, branch_of};
 ghost use Rattle.blob_model.specs.Answer.{first_refusal};
+ghost use Rattle.blob_model.specs.declared.call.Place.{Place};
 ghost use Rattle.range_log.specs.Updates.{extents};
 ghost use Rattle.page_store.specs.House.{House};
 ghost use Rattle.page_store.specs.Stored.{bytes_of_pages};
@@ -12,7 +13,7 @@ ghost use Rattle.snapshot.specs.Versions.{IsVersion, under_blob, older_version};
 ghost use Rattle.border_hints.specs.Numbered.{own_touch, IsTicketAmong};
 ghost use Rattle.publisher.specs.Windows.{window_on, version_of, waiting_of, published_of, with_numbered};
 ghost use Rattle.version_manager.specs.Desks.{OnRefused, OnNoMemory, most_bytes};
-ghost use Rattle.version_manager.specs.Blobs.{Takes};
+ghost use Rattle.version_manager.specs.Blobs.{Falls};
 ghost use Rattle.version_manager.specs.DeskInvariant.{Keeps, IsWaitingUpdate, update_tests};
 
 use crate::fault::DeskFault;
@@ -48,6 +49,54 @@ fn offset_in(place: Place, size: u64) -> u64
     }
 }
 
+// Where an update falls in its blob, and the size of the blob after it, in bytes.
+#[derive(Clone, Copy)]
+struct Placed {
+    at: u64,
+    size: u64,
+}
+
+// Where an update of `len` bytes of this blob falls, or why the store refuses it: the first of its reasons.
+fn place_update(
+    limits: Limits,
+    window: &BlobWindow,
+    place: Place,
+    len: u64,
+) -> Result<Placed, Refusal>
+    requires kept { (b : Blob) × Keeps limits window.now.numbered b }
+    requires some { 1 ≤ len }
+    requires few { len ≤ most_bytes }
+    ensures refused { (b : Blob) (bytes : List ℕ) → Keeps limits window.now.numbered b → length bytes ≡ len
+        → IfErr result (λ refusal. Some refusal ≡ first_refusal (update_tests limits b place bytes)) }
+    ensures accepted { (b : Blob) (bytes : List ℕ) → Keeps limits window.now.numbered b → length bytes ≡ len → IfOk result (λ _. None ≡ first_refusal (update_tests limits b place bytes)) }
+    ensures falls { (b : Blob) (bytes : List ℕ) → Keeps limits window.now.numbered b → length bytes ≡ len
+        → IfOk result (λ p. Falls limits window.now.numbered b place bytes p.at p.size) }
+{
+    let size = size_of_last(window);
+    let at = offset_in(place, size);
+    if at > size {
+        return Err(Refusal::OffsetPastSize { offset: at, size });
+    }
+    let end = size.max(at + len);
+    if end > limits.max_size {
+        return Err(Refusal::BlobTooBig {
+            end,
+            limit: limits.max_size,
+        });
+    }
+    if window.assigned() == limits.max_versions {
+        return Err(Refusal::TooManyVersions {
+            limit: limits.max_versions,
+        });
+    }
+    if u64::from(window.waiting().count()) == limits.max_open {
+        return Err(Refusal::TooManyOpen {
+            limit: limits.max_open,
+        });
+    }
+    Ok(Placed { at, size: end })
+}
+
 /// Why the store refuses an update of `len` bytes of this blob: the first of its reasons.
 pub(crate) fn refusal_of_update(
     limits: Limits,
@@ -59,31 +108,11 @@ pub(crate) fn refusal_of_update(
     requires some { 1 ≤ len }
     requires few { len ≤ most_bytes }
     ensures refusal { (b : Blob) (bytes : List ℕ) → Keeps limits window.now.numbered b → length bytes ≡ len → result ≡ first_refusal (update_tests limits b place bytes) }
-    ensures takes { (b : Blob) (bytes : List ℕ) → Keeps limits window.now.numbered b → length bytes ≡ len → IfNone result (Takes limits window.now.numbered b place bytes) }
 {
-    let size = size_of_last(window);
-    let at = offset_in(place, size);
-    if at > size {
-        return Some(Refusal::OffsetPastSize { offset: at, size });
+    match place_update(limits, window, place, len) {
+        Ok(_placed) => None,
+        Err(refusal) => Some(refusal),
     }
-    let end = size.max(at + len);
-    if end > limits.max_size {
-        return Some(Refusal::BlobTooBig {
-            end,
-            limit: limits.max_size,
-        });
-    }
-    if window.assigned() == limits.max_versions {
-        return Some(Refusal::TooManyVersions {
-            limit: limits.max_versions,
-        });
-    }
-    if u64::from(window.waiting().count()) == limits.max_open {
-        return Some(Refusal::TooManyOpen {
-            limit: limits.max_open,
-        });
-    }
-    None
 }
 
 /// The ticket of the next update, of the bytes of these pages. `Refused` in the order of the reasons.
@@ -121,24 +150,25 @@ pub(crate) fn ticket_over(
     ensures few { IfOk result (λ _. length window.now.numbered.log < published_of window.now.numbered + 64) }
     ensures room { IfOk result (λ _. length window.now.numbered.log < 1048576) }
 {
-    if let Some(refusal) = refusal_of_update(limits, window, place, pages.len()) {
-        return Err(DeskFault::Refused(refusal));
-    }
-    match next_ticket(alloc, caller, place, pages, window) {
+    let placed = match place_update(limits, window, place, pages.len()) {
+        Ok(placed) => placed,
+        Err(refusal) => return Err(DeskFault::Refused(refusal)),
+    };
+    match next_ticket(alloc, caller, placed, pages, window) {
         Ok(ticket) => Ok(ticket),
         Err(NoMemory) => Err(DeskFault::NoMemory),
     }
 }
 
-// The ticket of the next update, which the blob takes.
+// The ticket of the next update, which the blob takes where it was placed.
 fn next_ticket(
     alloc: Global,
     caller: u32,
-    place: Place,
+    placed: Placed,
     pages: &Arc<Pages>,
     window: &BlobWindow,
 ) -> Result<Ticket, NoMemory>
-    requires takes { (limits : Bounds) × (b : Blob) × Takes limits window.now.numbered b place (bytes_of_pages (arc_value pages.now).pages) }
+    requires falls { (limits : Bounds) × (b : Blob) × (place : Place) × Falls limits window.now.numbered b place (bytes_of_pages (arc_value pages.now).pages) placed.at placed.size }
     requires page_size { (arc_value pages.now).page_size ≡ window.now.numbered.page_size }
     ensures caller { IfOk result (λ t. t.caller ≡ caller) }
     ensures blob { IfOk result (λ t. t.blob ≡ window.now.numbered.blob) }
@@ -148,13 +178,11 @@ fn next_ticket(
     ensures snapshot { IfOk result (λ t. t.snapshot ≡ version_of window.now.numbered) }
     ensures waiting { IfOk result (λ t. t.waiting ≡ waiting_of window.now.numbered) }
     ensures pages { IfOk result (λ t. t.pages ≡ arc_value pages.now) }
-    ensures at { (limits : Bounds) (b : Blob) → Keeps limits window.now.numbered b → IfOk result (λ t. t.at ≡ offset_of place (size_now b)) }
-    ensures size { (limits : Bounds) (b : Blob) → Keeps limits window.now.numbered b → IfOk result (λ t. t.size ≡ size_with b place (bytes_of_pages (arc_value pages.now).pages)) }
+    ensures at { IfOk result (λ t. t.at ≡ placed.at) }
+    ensures size { IfOk result (λ t. t.size ≡ placed.size) }
 {
-    let size = size_of_last(window);
-    let at = offset_in(place, size);
+    window.stands();
     let len = pages.len();
-    let end = size.max(at + len);
     let hints = hints_of(alloc, window)?;
     hints.snapshot.stands();
     let shared = Arc::try_clone(pages)?;
@@ -162,9 +190,9 @@ fn next_ticket(
         caller,
         window.snapshot().blob(),
         window.assigned() + 1,
-        at,
+        placed.at,
         len,
-        end,
+        placed.size,
         hints,
         shared,
     ))
