@@ -1,17 +1,18 @@
 -- The finish of a numbered version.
-use Rattle.std.proofs.Common.{◌≡◌, ℕ, ◌-◌, ◌+◌, ◌<◌, ◌≤◌, ◌==◌, true, false, List, [], ◌∷◌, ◌++◌, length, get_or, set, drop, refl, sym, ◌∙◌, ap, subst, arith}
+use Rattle.std.proofs.Common.{◌≡◌, ℕ, ◌-◌, ◌+◌, ◌<◌, ◌≤◌, ◌==◌, false, List, [], ◌∷◌, ◌++◌, length, get_or, set, drop, refl, sym, ◌∙◌, ap, subst, arith}
 use Rattle.std.specs.Prelude.{Option, Some, None, nat_lt}
+use Rattle.std.proofs.lemmas.Bool.{le-ltb}
 use Rattle.std.proofs.lemmas.Bool.Decides.{nat_tests}
 use Rattle.blob_model.specs.Limits.{Bounds}
 use Rattle.blob_model.specs.Content.{Update}
 use Rattle.blob_model.specs.Store.{Store, Blob, blob_at, assigned, published, with_blob, is_finished, finish}
-use Rattle.blob_model.specs.Answer.{Answered, answer, unless_refused, already}
+use Rattle.blob_model.specs.Answer.{Answered, answer, first_refusal, unless_refused, not_numbered, already}
 use Rattle.blob_model.specs.History.{store_of, is_refused, IsNumbered}
 use Rattle.blob_model.specs.declared.call.Call.TheVariants as Calls
 use Rattle.blob_model.specs.declared.call.Event.{Event}
 use Rattle.blob_model.specs.declared.call.Event.TheVariants as Events
 use Rattle.blob_model.specs.declared.call.Outcome.TheVariants as Outcomes
-use Rattle.blob_model.specs.declared.call.Refusal.TheVariants as Refusals
+use Rattle.blob_model.specs.declared.call.Refusal.{Refusal}
 use Rattle.node_store.specs.UpdateRows.{UpdateRow}
 use Rattle.snapshot.specs.Versions.{IsRowOf}
 use Rattle.publisher.specs.Windows.{Numbered, WindowState, published_of, with_finished, is_finished as is_done}
@@ -22,6 +23,7 @@ use Rattle.version_manager.specs.declared.waiting.WaitingUpdate.{WaitingUpdate}
 use Rattle.version_manager.specs.Desks.{DeskState, updates_or_none, finished_or_not, IsTicketOf, IsRowFor}
 use Rattle.version_manager.specs.DeskInvariant.{Keeps, AreWaiting, KeepsDesk, numbered_of}
 use Rattle.version_manager.proofs.Blobs.{finished_is, finish_kept}
+use Rattle.version_manager.proofs.BlobsTests.{first_pass}
 use Rattle.version_manager.proofs.Stores.{store_after, legal_after, unless_none, unless_some, in_blob_here}
 use Rattle.blob_model.proofs.Marks.{blob_at-with, by_test}
 use Rattle.version_manager.proofs.Desks.{window_of, absent, replaced, at_index, IsHere, IsAt}
@@ -58,9 +60,9 @@ module _ (limits : Bounds) (p : ℕ) (houses : List House) (h : List Event) (ws 
     unfolding finishing
     finish_at = in_blob_here (store_of limits h) blob x.b finishing x.at
 
-    pub finish_already : is_finished x.b version ≡ true → (answer (store_of limits h) caller (Calls.Finish blob version)).1 ≡ Outcomes.Refused (Refusals.Already version)
+    pub finish_refused : (r : Refusal) → Some r ≡ first_refusal (already x.b version ∷ []) → (answer (store_of limits h) caller (Calls.Finish blob version)).1 ≡ Outcomes.Refused r
     unfolding finishing
-    finish_already t = ap (λ (a : Answered). a.1) (finish_at ∙ unless_some (store_of limits h) (already x.b version ∷ []) _ _ (rw t refl))
+    finish_refused r e = ap (λ (a : Answered). a.1) (finish_at ∙ unless_some (store_of limits h) (already x.b version ∷ []) _ r (sym e))
 
     module _ (waits : is_finished x.b version ≡ false) where
       finish_is : answer (store_of limits h) caller (Calls.Finish blob version) ≡ (with_blob (store_of limits h) blob (finish x.b version), Outcomes.Published (published (finish x.b version)))
@@ -93,6 +95,13 @@ module _ (limits : Bounds) (p : ℕ) (houses : List House) (h : List Event) (ws 
     pub first : 1 ≤ version
     pub numbered : version ≤ length w.numbered.log
     pub own : IsRowOf w.numbered.page_size at.found.b.updates version row
+
+  -- the store refuses to finish it only where it is finished
+  pub finishable_told : (version : ℕ) (w : WindowState WaitingUpdate) (row : UpdateRow) (f : IsFinishable version w row) (o : Option Refusal)
+      → o ≡ first_refusal (not_numbered f.at.found.b version ∷ already f.at.found.b version ∷ []) → o ≡ first_refusal (already f.at.found.b version ∷ [])
+  finishable_told version w row f o e =
+      let le : version ≤ assigned f.at.found.b = omega (arith, f.numbered, f.at.keeps.stands.counted) in
+      e ∙ sym (first_pass (not_numbered f.at.found.b version) (already f.at.found.b version ∷ []) _ (le-ltb (assigned f.at.found.b) version le) refl)
 
   -- whether the version is finished, by the blob
   pub finishable_mark : (version : ℕ) (w : WindowState WaitingUpdate) (row : UpdateRow) (f : IsFinishable version w row) → is_finished f.at.found.b version ≡ is_done w.numbered version

@@ -12,6 +12,7 @@ use Rattle.blob_model.specs.Limits.{Bounds}
 use Rattle.blob_model.specs.Store.{Blob, blob_at, size_now}
 use Rattle.blob_model.specs.Answer.{Test, first_refusal, not_numbered, already}
 use Rattle.blob_model.specs.History.{store_of}
+use Rattle.blob_model.specs.declared.call.Refusal.{Refusal}
 use Rattle.page_store.specs.House.{House}
 use Rattle.page_store.specs.Stored.{Cut, bytes_of_pages}
 use Rattle.tree_geom.specs.declared.touch.Touch.{Touch}
@@ -231,6 +232,10 @@ pub none_passes : (t : Test) (ts : List Test) → None ≡ first_refusal (t ∷ 
 none_passes t ts e = by_test _ t.refuses
     (λ hit. absurd (none-some t.refusal (e ∙ sym (first_hit t ts hit))))
     (λ pass. (pass, e ∙ ap (λ (b : Bool). if b then Some t.refusal else first_refusal ts) pass))
+
+-- what one test refuses
+pub some_hits : (t : Test) (r : Refusal) → Some r ≡ first_refusal (t ∷ []) → t.refuses ≡ true
+some_hits t r e = by_test _ t.refuses (λ hit. hit) (λ pass. absurd (none-some r (sym (e ∙ ap (λ (b : Bool). if b then Some t.refusal else None) pass))))
 
 pub is_waiting : (d : DeskState) (blob v : ℕ) (b : Blob) → blob_at (store_of d.limits d.history) blob ≡ Some b → 1 ≤ v → v ≤ length b.updates → None ≡ first_refusal (not_numbered b v ∷ already b v ∷ []) → IsUnfinished d blob v
 is_waiting d blob v b at some within free =

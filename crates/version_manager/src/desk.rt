@@ -23,7 +23,7 @@ use crate::blob::{branch_in, first_in, refusal_of_update, ticket_again, ticket_o
 use crate::entry::{Change, Entry};
 use crate::fault::{DeskFault, OpenFault};
 use crate::look::Look;
-use crate::looks::{look_in, no_ticket, snapshot_in};
+use crate::looks::{look_in, snapshot_in, unfinishable};
 use crate::waiting::{BlobWindow, WaitingUpdate};
 use blob_model::{Limits, Outcome, Place, Refusal};
 use border_hints::Ticket;
@@ -263,8 +263,8 @@ impl Desk {
         let index = (blob - 1) as usize;
         let window = &self.windows[index];
         window.stands();
-        if window.is_finished(version) {
-            return Err((DeskFault::Refused(Refusal::Already { version }), row));
+        if let Some(refusal) = unfinishable(window, version) {
+            return Err((DeskFault::Refused(refusal), row));
         }
         let Ok(()) = make_room(&mut self.history) else {
             return Err((DeskFault::NoMemory, row));
@@ -361,7 +361,7 @@ impl Desk {
         };
         let window = &self.windows[index];
         window.stands();
-        if let Some(refusal) = no_ticket(window, version) {
+        if let Some(refusal) = unfinishable(window, version) {
             return Err(DeskFault::Refused(refusal));
         }
         let update = window.update_at(version);

@@ -32,8 +32,8 @@ fn unpublished(window: &BlobWindow, version: u64) -> Option<Refusal>
     }
 }
 
-/// Why there is no ticket of that version now, if so: it was never numbered, or it is finished.
-pub(crate) fn no_ticket(window: &BlobWindow, version: u64) -> Option<Refusal>
+/// Why that version can't be finished now, if so, nor have a ticket: it was never numbered, or it is finished.
+pub(crate) fn unfinishable(window: &BlobWindow, version: u64) -> Option<Refusal>
     ensures refusal { (limits : Bounds) (b : Blob) → Keeps limits window.now.numbered b → result ≡ first_refusal (not_numbered b version ∷ already b version ∷ []) }
     ensures waits { IfNone result ((published_of window.now.numbered < version) × (version ≤ length window.now.numbered.log)) }
 {

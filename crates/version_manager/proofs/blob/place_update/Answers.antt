@@ -65,14 +65,14 @@ returns-clause-falls c b bytes k n =
     let at = at_is c.args.limits b c.args.place bytes c.size_of_last-size.result c.offset_in-at.result c.args.len s c.offset_in-at.ensures n in
     record {
       takes = record {
-      kept = k;
-      bounds = subst IsWithin c.limits.view_is c.limits.invariant;
-      even = omega arith;
-      some = omega (arith, n);
-      begins = omega (arith, s, at);
-      fits = omega (arith, size, end);
-      versions = omega (arith, k.versions, more);
-      waits = omega (arith, k.waiting, room);
+        kept = k;
+        bounds = subst IsWithin c.limits.view_is c.limits.invariant;
+        even = omega arith;
+        some = omega (arith, n);
+        begins = omega (arith, s, at);
+        fits = omega (arith, size, end);
+        versions = omega (arith, k.versions, more);
+        waits = omega (arith, k.waiting, room);
       };
       at_is = at;
       size_is = c.max-end.ensures ∙ end;

@@ -1,32 +1,35 @@
-use Rattle.std.proofs.Common.{◌≡◌, ℕ, ◌-◌, true, List, [], ◌∷◌, ◌++◌, length, map, set, drop, get_or, refl, sym, ◌∙◌, ap, subst, arith}
+use Rattle.std.proofs.Common.{◌≡◌, ℕ, ◌-◌, Bool, true, false, List, [], ◌∷◌, ◌++◌, length, map, set, drop, get_or, refl, sym, ◌∙◌, ap, subst, arith}
+use Rattle.std.specs.Prelude.{Option, Some, None}
 use Rattle.std.specs.Arc.{arc_value}
 use Rattle.std.proofs.lemmas.List.{map-set}
-use Rattle.blob_model.specs.Store.{Blob, blob_at, published, finish}
-use Rattle.blob_model.specs.Answer.{answer}
+use Rattle.blob_model.specs.Store.{Blob, blob_at, published, is_finished, finish}
+use Rattle.blob_model.specs.Answer.{answer, first_refusal, not_numbered, already}
 use Rattle.blob_model.specs.History.{store_of}
 use Rattle.blob_model.specs.declared.call.Call.TheVariants as Calls
 use Rattle.blob_model.specs.declared.call.Event.{Event}
 use Rattle.blob_model.specs.declared.call.Event.TheVariants as Events
 use Rattle.blob_model.specs.declared.call.Outcome.TheVariants as Outcomes
-use Rattle.blob_model.specs.declared.call.Refusal.TheVariants as Refusals
+use Rattle.blob_model.specs.declared.call.Refusal.{Refusal}
+use Rattle.blob_model.specs.Limits.{Bounds}
 use Rattle.blob_model.proofs.Marks.{finished_same}
 use Rattle.node_store.specs.UpdateRows.{IsRowIn}
-use Rattle.publisher.specs.Windows.{Numbered, WindowState, published_of, with_finished, is_finished as is_done}
+use Rattle.publisher.specs.Windows.{Numbered, WindowState, published_of, with_finished}
 use Rattle.version_manager.specs.declared.entry.Entry.{Entry}
 use Rattle.version_manager.specs.declared.entry.Change.TheVariants as Changes
 use Rattle.version_manager.specs.declared.waiting.WaitingUpdate.{WaitingUpdate}
 use Rattle.version_manager.specs.Desks.{DeskState, store_now, finished_or_not, is_finished_in, with_event, window_in, windows_with, IsTicketOf, IsRowFor}
 use Rattle.version_manager.specs.Entries.{event_of}
-use Rattle.version_manager.specs.DeskInvariant.{seen_in, numbered_of}
+use Rattle.version_manager.specs.DeskInvariant.{Keeps, seen_in, numbered_of}
 use Rattle.version_manager.specs.Folds.{IsInOrder}
 use Rattle.version_manager.specs.Origins.{parents_of, AreUnder}
 use Rattle.version_manager.proofs.Blobs.{finish_kept, published_is}
 use Rattle.version_manager.proofs.Desks.{pushed_event, short_yet}
-use Rattle.version_manager.proofs.Finishing.{IsFinishable, this, finishable, finishable_mark, finish_already, finish_outcome, finish_there, finished_keeps}
+use Rattle.version_manager.proofs.Finishing.{IsFinishable, this, finishable, finishable_mark, finishable_told, finish_refused, finish_outcome, finish_there, finished_keeps}
 use Rattle.version_manager.proofs.Houses.{AreRowsIn, finished_in}
 use Rattle.version_manager.proofs.Keeping.{lies_at, under_at, desk_changed}
 use Rattle.version_manager.proofs.Numbering.{even_of}
 use Rattle.version_manager.proofs.Origins.{finished_under, unfinished_none}
+use Rattle.version_manager.proofs.Reissuing.{none_passes, some_hits}
 use Rattle.version_manager.proofs.desk.Desk.finish.Goals.{After-index-window}
 use Rattle.version_manager.proofs.desk.Desk.finish.Goals as goal
 
@@ -53,16 +56,22 @@ said c P here =
     subst (λ (s : DeskState). P s t.blob t.version) c.self.view_is
     (subst (λ (n : ℕ). P d t.blob n) c.version-version.ensures.version (subst (λ (i : ℕ). P d i c.version-version.result) c.blob-blob.ensures here))
 
--- whether the ticket's version is finished, by the window that was looked at
-marked : (c : After-index-window) (w : WindowState WaitingUpdate) → w ≡ get_or c.self.inside.windows.items (c.blob-blob.result - 1) w
-    → is_finished_in c.args.self.now c.args.ticket.now.blob c.args.ticket.now.version ≡ is_done w.numbered c.version-version.result
-marked c w read =
-    let f = found c w read in
-    let v = c.version-version.result in
-    said c (λ s i n. is_finished_in s i n ≡ is_done w.numbered v) (ap (λ o. finished_or_not o v) f.at.found.at ∙ finishable_mark _ _ _ _ _ _ _ v w _ f)
+-- whether the ticket's version is finished, by the blob
+marked : (c : After-index-window) (w : WindowState WaitingUpdate) (read : w ≡ get_or c.self.inside.windows.items (c.blob-blob.result - 1) w) (mark : Bool) → is_finished (found c w read).at.found.b c.version-version.result ≡ mark
+    → is_finished_in c.args.self.now c.args.ticket.now.blob c.args.ticket.now.version ≡ mark
+marked c w read mark is = said c (λ s i n. is_finished_in s i n ≡ mark) (ap (λ o. finished_or_not o c.version-version.result) (found c w read).at.found.at ∙ is)
 
-pub is_finished-requires : goal.is_finished-requires
-is_finished-requires c = let f = found (goal.at.is_finished-requires c).After-index-window c.index-window.result.now c.index-window.ensures in (f.first, f.numbered)
+-- the blob, by the first look
+abbrev looked : (c : After-index-window) → Blob
+looked c = (found c c.index-window.result.now c.index-window.ensures).at.found.b
+
+-- why the store refuses the finish, if it does
+told : (c : After-index-window) (o : Option Refusal)
+    → ((limits : Bounds) (b : Blob) → Keeps limits c.index-window.result.now.numbered b → o ≡ first_refusal (not_numbered b c.version-version.result ∷ already b c.version-version.result ∷ []))
+    → o ≡ first_refusal (already (looked c) c.version-version.result ∷ [])
+told c o is =
+    let f = found c c.index-window.result.now c.index-window.ensures in
+    finishable_told _ _ _ _ _ _ _ c.version-version.result c.index-window.result.now _ f o (is c.self.inside.limits f.at.found.b f.at.keeps)
 
 pub finish-requires-clause-numbered : goal.finish-requires-clause-numbered
 finish-requires-clause-numbered c = let f = found (goal.at.finish-requires-clause-numbered c).After-index-window c.index_mut.result.now c.index_mut.ensures.value in (f.first, f.numbered)
@@ -122,7 +131,9 @@ returns-in-Ok-finish-clause-published c =
 
 pub returns-in-Ok-finish-clause-unfinished : goal.returns-in-Ok-finish-clause-unfinished
 returns-in-Ok-finish-clause-unfinished c =
-    marked (goal.at.returns-in-Ok-finish-clause-unfinished c).After-index-window c.index_mut.result.now c.index_mut.ensures.value ∙ c.in-Ok-finish.ensures.unfinished
+    let here = (goal.at.returns-in-Ok-finish-clause-unfinished c).After-index-window in
+    let w = c.index_mut.result.now in
+    marked here w c.index_mut.ensures.value false (finishable_mark _ _ _ _ _ _ _ c.version-version.result w _ (found here w c.index_mut.ensures.value) ∙ c.in-Ok-finish.ensures.unfinished)
 
 pub returns-in-Ok-finish-clause-finished : goal.returns-in-Ok-finish-clause-finished
 returns-in-Ok-finish-clause-finished c =
@@ -144,28 +155,30 @@ returns-in-Ok-finish-clause-finished c =
     (ap (λ (l : List Event). finished_or_not (blob_at (store_of d.limits l) blob) v) history ∙ ap (λ o. finished_or_not o v) there
     ∙ finished_same b v f.first (omega (arith, f.numbered, f.at.keeps.stands.counted, marks)))
 
-pub returns-then-is_finished-clause-already : goal.returns-then-is_finished-clause-already
-returns-then-is_finished-clause-already c =
-    marked (goal.at.returns-then-is_finished-clause-already c).After-index-window c.index-window.result.now c.index-window.ensures ∙ sym c.is_finished.ensures ∙ c.if-is_finished.true
+pub returns-in-Some-clause-already : goal.returns-in-Some-clause-already
+returns-in-Some-clause-already c =
+    let here = (goal.at.returns-in-Some-clause-already c).After-index-window in
+    marked here c.index-window.result.now c.index-window.ensures true (some_hits (already (looked here) c.version-version.result) c.in-Some.refusal (told here (Some c.in-Some.refusal) c.in-Some.ensures.refusal))
 
 pub returns-in-Err-clause-waits : goal.returns-in-Err-clause-waits
 returns-in-Err-clause-waits c =
-    marked (goal.at.returns-in-Err-clause-waits c).After-index-window c.index-window.result.now c.index-window.ensures ∙ sym c.is_finished.ensures ∙ c.if-is_finished.false
+    let here = (goal.at.returns-in-Err-clause-waits c).After-index-window in
+    marked here c.index-window.result.now c.index-window.ensures false (none_passes (already (looked here) c.version-version.result) [] (told here None c.in_default.ensures.refusal)).0
 
-pub returns-in_default-clause-waits : goal.returns-in_default-clause-waits
-returns-in_default-clause-waits c =
-    marked (goal.at.returns-in_default-clause-waits c).After-index-window c.index-window.result.now c.index-window.ensures ∙ sym c.is_finished.ensures ∙ c.if-is_finished.false
+pub returns-in_default-make_room-clause-waits : goal.returns-in_default-make_room-clause-waits
+returns-in_default-make_room-clause-waits c =
+    let here = (goal.at.returns-in_default-make_room-clause-waits c).After-index-window in
+    marked here c.index-window.result.now c.index-window.ensures false (none_passes (already (looked here) c.version-version.result) [] (told here None c.in_default.ensures.refusal)).0
 
-pub returns-then-is_finished-clause-refused : goal.returns-then-is_finished-clause-refused
-returns-then-is_finished-clause-refused c =
+pub returns-in-Some-clause-refused : goal.returns-in-Some-clause-refused
+returns-in-Some-clause-refused c =
     let d = c.self.inside in
     let v = c.version-version.result in
-    let here = (goal.at.returns-then-is_finished-clause-refused c).After-index-window in
-    let w = c.index-window.result.now in
-    let f = found here w c.index-window.ensures in
-    said here (λ s i n. (answer (store_of s.limits s.history) c.args.caller (Calls.Finish i n)).1 ≡ Outcomes.Refused (Refusals.Already v))
-    (finish_already d.limits d.page_size (arc_value d.houses) (map event_of d.history.items) d.windows.items c.self.invariant.kept c.blob-blob.result c.args.caller v f.at.found
-    (finishable_mark _ _ _ _ _ _ _ v w _ f ∙ sym c.is_finished.ensures ∙ c.if-is_finished.true))
+    let here = (goal.at.returns-in-Some-clause-refused c).After-index-window in
+    let f = found here c.index-window.result.now c.index-window.ensures in
+    said here (λ s i n. (answer (store_of s.limits s.history) c.args.caller (Calls.Finish i n)).1 ≡ Outcomes.Refused c.in-Some.refusal)
+    (finish_refused d.limits d.page_size (arc_value d.houses) (map event_of d.history.items) d.windows.items c.self.invariant.kept c.blob-blob.result c.args.caller v f.at.found c.in-Some.refusal
+    (told here (Some c.in-Some.refusal) c.in-Some.ensures.refusal))
 
 pub returns-in-Ok-finish-clause-new : goal.returns-in-Ok-finish-clause-new
 returns-in-Ok-finish-clause-new c =

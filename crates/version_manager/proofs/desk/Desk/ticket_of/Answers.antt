@@ -46,13 +46,13 @@ own : (c : After-update_at-update) (b : Blob) → ((i : ℕ) (u : WaitingUpdate)
 own c b waits =
     let n = published_of c.index-window.result.now.numbered in
     let u = c.update_at-update.result.now in
-    let is : suc (n + (c.args.version - n - 1)) ≡ c.args.version = omega (arith, c.in_default-no_ticket.ensures.waits) in
+    let is : suc (n + (c.args.version - n - 1)) ≡ c.args.version = omega (arith, c.in_default-unfinishable.ensures.waits) in
     subst (λ (v : ℕ). IsWaitingUpdate c.self.inside.page_size (arc_value c.self.inside.houses) b.updates v u) is (waits (c.args.version - n - 1) u c.update_at-update.ensures)
 
-pub returns-in-Some-no_ticket-clause-refused : goal.returns-in-Some-no_ticket-clause-refused
-returns-in-Some-no_ticket-clause-refused c =
-    let here = (goal.at.returns-in-Some-no_ticket-clause-refused c).After-index-window in
-    told here _ (c.in-Some-no_ticket.ensures.refusal c.self.inside.limits (at here).found.b (at here).keeps)
+pub returns-in-Some-unfinishable-clause-refused : goal.returns-in-Some-unfinishable-clause-refused
+returns-in-Some-unfinishable-clause-refused c =
+    let here = (goal.at.returns-in-Some-unfinishable-clause-refused c).After-index-window in
+    told here _ (c.in-Some-unfinishable.ensures.refusal c.self.inside.limits (at here).found.b (at here).keeps)
 
 pub ticket_again-requires-clause-update : goal.ticket_again-requires-clause-update
 ticket_again-requires-clause-update c =
@@ -124,17 +124,17 @@ returns-in-Ok-clause-here c =
 pub returns-in-Ok-clause-unfinished : goal.returns-in-Ok-clause-unfinished
 returns-in-Ok-clause-unfinished c =
     let x = at (goal.at.returns-in-Ok-clause-unfinished c).After-index-window in
-    let waits = c.in_default-no_ticket.ensures.waits in
+    let waits = c.in_default-unfinishable.ensures.waits in
     let P : DeskState → Type 0 = λ s. IsUnfinished s c.args.blob c.args.version in
     subst P c.self.view_is (is_waiting _ c.args.blob c.args.version x.found.b x.found.at (omega (arith, waits)) (omega (arith, waits, x.keeps.stands.counted))
-    (c.in_default-no_ticket.ensures.refusal c.self.inside.limits x.found.b x.keeps))
+    (c.in_default-unfinishable.ensures.refusal c.self.inside.limits x.found.b x.keeps))
 
 pub returns-in-Ok-clause-done : goal.returns-in-Ok-clause-done
 returns-in-Ok-clause-done c =
     let here = (goal.at.returns-in-Ok-clause-done c).After-index-window in
-    told here None (c.in_default-no_ticket.ensures.refusal c.self.inside.limits (at here).found.b (at here).keeps)
+    told here None (c.in_default-unfinishable.ensures.refusal c.self.inside.limits (at here).found.b (at here).keeps)
 
 pub returns-in-Err-clause-memory : goal.returns-in-Err-clause-memory
 returns-in-Err-clause-memory c =
     let here = (goal.at.returns-in-Err-clause-memory c).After-index-window in
-    told here None (c.in_default-no_ticket.ensures.refusal c.self.inside.limits (at here).found.b (at here).keeps)
+    told here None (c.in_default-unfinishable.ensures.refusal c.self.inside.limits (at here).found.b (at here).keeps)

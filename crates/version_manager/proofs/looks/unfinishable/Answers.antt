@@ -2,8 +2,8 @@ use Rattle.std.proofs.Common.{sym, ◌∙◌, arith}
 use Rattle.std.proofs.Common.{true≢false}
 use Rattle.std.proofs.lemmas.Bool.{eq-eqb}
 use Rattle.version_manager.proofs.Blobs.{unfinished_above}
-use Rattle.version_manager.proofs.looks.no_ticket.Goals.{then-version-eq0, else-version-eq0}
-use Rattle.version_manager.proofs.looks.no_ticket.Goals as goal
+use Rattle.version_manager.proofs.looks.unfinishable.Goals.{then-version-eq0, else-version-eq0}
+use Rattle.version_manager.proofs.looks.unfinishable.Goals as goal
 
 pub returns-else-is_finished-clause-waits : goal.returns-else-is_finished-clause-waits
 returns-else-is_finished-clause-waits c = elim c.if-version-eq0.branch [
