@@ -45,7 +45,7 @@ short_yet old new entry e room = omega (arith, length-map new event_of, ap lengt
 blob_of : (s : Store) (blob : ℕ) → 1 ≤ blob → blob_at s blob ≡ slice_get s.blobs (blob - 1)
 blob_of s blob some = let t : (blob == 0) ≡ false = grind (arith, nat_tests) in rw t refl
 
-module _ (limits : Bounds) (p : ℕ) (houses : List House) (h : List Event) (ws : List (WindowState WaitingUpdate)) (kept : KeepsDesk limits p houses h ws) where
+module _ {limits : Bounds} {p : ℕ} {houses : List House} {h : List Event} {ws : List (WindowState WaitingUpdate)} (kept : KeepsDesk limits p houses h ws) where
   -- the blob that a window keeps
   pub record IsHere (blob : ℕ) : Type 0 where
     pub b : Blob

@@ -39,18 +39,18 @@ finish_goes s caller blob version (Some b) at first within waits =
     in_blob_here s blob b (λ x. unless_refused s (already x version ∷ []) (done x)) at ∙ unless_none s (already b version ∷ []) (done b) (rw waits refl) in
     ap (λ (a : Answered). is_refused a.1) is
 
-module _ (limits : Bounds) (p : ℕ) (houses : List House) (h : List Event) (ws : List (WindowState WaitingUpdate)) (kept : KeepsDesk limits p houses h ws) (blob : ℕ) where
+module _ {limits : Bounds} {p : ℕ} {houses : List House} {h : List Event} {ws : List (WindowState WaitingUpdate)} (kept : KeepsDesk limits p houses h ws) (blob : ℕ) where
   -- a blob with updates is there
   pub with_updates : (version : ℕ) → 1 ≤ version → version ≤ length (updates_or_none (blob_at (store_of limits h) blob)) → (1 ≤ blob) × (blob ≤ length ws)
   with_updates version some within =
       let none : (1 ≤ blob → length ws < blob) → ⊥ = λ past.
-      let e : length (updates_or_none (blob_at (store_of limits h) blob)) ≡ 0 = ap (λ o. length (updates_or_none o)) (absent limits p houses h ws kept blob past) in
+      let e : length (updates_or_none (blob_at (store_of limits h) blob)) ≡ 0 = ap (λ o. length (updates_or_none o)) (absent kept blob past) in
       omega arith in (
         by_test (1 ≤ blob) (blob == 0) (λ t. absurd (none (λ le. let z : blob ≡ 0 = grind (arith, nat_tests) in absurd (omega arith)))) (λ t. grind (arith, nat_tests)),
         by_test (blob ≤ length ws) (nat_lt (length ws) blob) (λ t. absurd (none (λ le. grind (arith, nat_tests)))) (λ t. grind (arith, nat_tests)),
       )
 
-  module _ (caller version : ℕ) (x : IsHere limits p houses h ws kept blob) where
+  module _ (caller version : ℕ) (x : IsHere kept blob) where
     finishing : Blob → Answered
     finishing b =
         let s : Store = store_of limits h in
@@ -83,7 +83,7 @@ module _ (limits : Bounds) (p : ℕ) (houses : List House) (h : List Event) (ws 
       finish_keeps first within some w k waiting id page =
           let N : Option Blob → Type 0 = λ o. IsNumbered o version in
           let may : N (blob_at (store_of limits h) blob) = subst N (sym x.at) (first, within) in
-          replaced limits p houses h ws kept (Events.Finish caller blob version) blob (finish x.b version) w some (legal_after limits h (Events.Finish caller blob version) _ _ finish_is kept.legal may refl) finish_after
+          replaced kept (Events.Finish caller blob version) blob (finish x.b version) w some (legal_after limits h (Events.Finish caller blob version) _ _ finish_is kept.legal may refl) finish_after
           (window_of limits p houses blob (finish x.b version) w id page k waiting)
 
   abbrev pub this : List Shelves → DeskState
@@ -91,7 +91,7 @@ module _ (limits : Bounds) (p : ℕ) (houses : List House) (h : List Event) (ws 
 
   -- the row of a ticket of the desk, at the window of its blob
   pub record IsFinishable (version : ℕ) (w : WindowState WaitingUpdate) (row : UpdateRow) : Type 0 where
-    pub at : IsAt limits p houses h ws kept blob (blob - 1) w
+    pub at : IsAt kept blob (blob - 1) w
     pub first : 1 ≤ version
     pub numbered : version ≤ length w.numbered.log
     pub own : IsRowOf w.numbered.page_size at.found.b.updates version row
@@ -112,7 +112,7 @@ module _ (limits : Bounds) (p : ℕ) (houses : List House) (h : List Event) (ws 
   finishable nodes t version w row on is first ticket own read =
       let N : ℕ → ℕ → Type 0 = λ i v. v ≤ length (updates_or_none (blob_at (store_of limits h) i)) in
       let here = with_updates version first (subst (λ (i : ℕ). N i version) (sym on) (subst (λ (v : ℕ). N t.blob v) (sym is) ticket.numbered)) in
-      let x : IsAt limits p houses h ws kept blob (blob - 1) w = at_index limits p houses h ws kept blob (blob - 1) (length ws) w refl (refl, here.0, here.1) read in
+      let x : IsAt kept blob (blob - 1) w = at_index kept blob (blob - 1) (length ws) w refl (refl, here.0, here.1) read in
       let us : updates_or_none (blob_at (store_of limits h) t.blob) ≡ x.found.b.updates = ap (λ (i : ℕ). updates_or_none (blob_at (store_of limits h) i)) (sym on) ∙ ap updates_or_none x.found.at in
       let R : List Update → Type 0 = λ l. IsRowOf p l t.version row in
       let S : ℕ → Type 0 = λ v. IsRowOf p x.found.b.updates v row in

@@ -19,12 +19,12 @@ use Rattle.version_manager.proofs.Houses.{AreRowsIn, window_lies}
 use Rattle.version_manager.proofs.Orders.{IsEventInOrder, order_more}
 use Rattle.version_manager.proofs.Origins.{origins_at, origins_set, origins_pushed, origins_after}
 
-module _ (limits : Bounds) (p : ℕ) (houses : List House) (nodes : List Shelves) (h : List Event) (ws : List (WindowState WaitingUpdate)) (k : IsDesk limits p houses nodes h ws) where
+module _ {limits : Bounds} {p : ℕ} {houses : List House} {nodes : List Shelves} {h : List Event} {ws : List (WindowState WaitingUpdate)} (k : IsDesk limits p houses nodes h ws) where
   -- of a window that was found
-  pub lies_at : (blob index : ℕ) (w : WindowState WaitingUpdate) → IsAt limits p houses h ws k.kept blob index w → AreRowsIn nodes houses w.numbered
+  pub lies_at : (blob index : ℕ) (w : WindowState WaitingUpdate) → IsAt k.kept blob index w → AreRowsIn nodes houses w.numbered
   lies_at blob index w x = window_lies nodes houses (numbered_of ws) (blob - 1) w.numbered no_window k.lies (omega (arith, x.some, x.within, length-map ws seen_in)) x.window
 
-  pub under_at : (blob index : ℕ) (w : WindowState WaitingUpdate) → IsAt limits p houses h ws k.kept blob index w → AreUnder (parents_of h) blob w.numbered.rows
+  pub under_at : (blob index : ℕ) (w : WindowState WaitingUpdate) → IsAt k.kept blob index w → AreUnder (parents_of h) blob w.numbered.rows
   under_at blob index w x = origins_at (parents_of h) (numbered_of ws) k.origins blob w.numbered no_window x.some (omega (arith, x.within, length-map ws seen_in)) x.window
 
   -- an event that changes the window of one blob

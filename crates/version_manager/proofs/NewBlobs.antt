@@ -24,7 +24,7 @@ use Rattle.version_manager.proofs.Waits.{none_wait}
 abbrev pub no_updates : Blob
 no_updates = record { updates = []; finished = [] }
 
-module _ (limits : Bounds) (p : ℕ) (houses : List House) (h : List Event) (ws : List (WindowState WaitingUpdate)) (kept : KeepsDesk limits p houses h ws) (caller : ℕ) where
+module _ {limits : Bounds} {p : ℕ} {houses : List House} {h : List Event} {ws : List (WindowState WaitingUpdate)} (kept : KeepsDesk limits p houses h ws) (caller : ℕ) where
   full : length ws ≡ limits.max_blobs → (too_many_blobs (store_of limits h)).refuses ≡ true
   full e =
       let s : Store = store_of limits h in
@@ -63,7 +63,7 @@ module _ (limits : Bounds) (p : ℕ) (houses : List House) (h : List Event) (ws 
   create_keeps apart w k none id page =
       let fewer : length ws < limits.max_blobs = (let f : length ws ≤ limits.max_blobs = kept.few in omega (arith, apart)) in
       let next : w.numbered.blob ≡ suc (length ws) = omega (arith, id) in
-      pushed limits p houses h ws kept (Events.Create caller) no_updates w (legal_after limits h (Events.Create caller) _ _ (create_is apart) kept.legal tt refl) (store_after limits h (Events.Create caller) _ _ (create_is apart)) fewer
+      pushed kept (Events.Create caller) no_updates w (legal_after limits h (Events.Create caller) _ _ (create_is apart) kept.legal tt refl) (store_after limits h (Events.Create caller) _ _ (create_is apart)) fewer
       (window_of limits p houses (suc (length ws)) no_updates w next page k (none_wait p houses [] w none))
 
   -- ---- a branch
@@ -73,7 +73,7 @@ module _ (limits : Bounds) (p : ℕ) (houses : List House) (h : List Event) (ws 
         let s : Store = store_of limits h in
         unless_refused s (not_published b version ∷ too_many_blobs s ∷ []) (and_blob s (branch_of b version), Outcomes.Blob (length s.blobs + 1))
 
-    module _ (x : IsHere limits p houses h ws kept blob) where
+    module _ (x : IsHere kept blob) where
       w : Numbered
       w = get_or (numbered_of ws) (blob - 1) no_window
 
@@ -120,5 +120,5 @@ module _ (limits : Bounds) (p : ℕ) (houses : List House) (h : List Event) (ws 
               let fewer : length ws < limits.max_blobs = (let f : length ws ≤ limits.max_blobs = kept.few in omega (arith, apart)) in
               let next : w'.numbered.blob ≡ suc (length ws) = omega (arith, id) in
               let e = Events.Branch caller blob version in
-              pushed limits p houses h ws kept e (branch_of x.b version) w' (legal_after limits h e _ _ branch_is kept.legal tt refl) (store_after limits h e _ _ branch_is) fewer
+              pushed kept e (branch_of x.b version) w' (legal_after limits h e _ _ branch_is kept.legal tt refl) (store_after limits h e _ _ branch_is) fewer
               (window_of limits p houses (suc (length ws)) (branch_of x.b version) w' next page k (none_wait p houses (branch_of x.b version).updates w' none))

@@ -92,7 +92,7 @@ told : (s : Store) (o : Option Refusal) (done : Answered) → refusal_in done.1 
 told s (Some r) done e = refl
 told s None done e = e
 
-module _ (limits : Bounds) (p : ℕ) (houses : List House) (h : List Event) (ws : List (WindowState WaitingUpdate)) (kept : KeepsDesk limits p houses h ws) (caller blob : ℕ) (place : Place) (bytes : List ℕ) where
+module _ {limits : Bounds} {p : ℕ} {houses : List House} {h : List Event} {ws : List (WindowState WaitingUpdate)} (kept : KeepsDesk limits p houses h ws) (caller blob : ℕ) (place : Place) (bytes : List ℕ) where
   abbrev pub own_update : Update
   own_update = record { caller = caller; place = place; bytes = bytes }
 
@@ -108,9 +108,9 @@ module _ (limits : Bounds) (p : ℕ) (houses : List House) (h : List Event) (ws 
 
   pub assign_absent : (1 ≤ blob → length ws < blob) → (answer (store_of limits h) caller (Calls.Assign blob place bytes)).1 ≡ Outcomes.Refused (Refusals.NoBlob blob)
   unfolding assigning
-  assign_absent past = ap (λ (a : Answered). a.1) (in_blob_none (store_of limits h) blob assigning (absent limits p houses h ws kept blob past))
+  assign_absent past = ap (λ (a : Answered). a.1) (in_blob_none (store_of limits h) blob assigning (absent kept blob past))
 
-  module _ (x : IsHere limits p houses h ws kept blob) where
+  module _ (x : IsHere kept blob) where
     tests_is : first_refusal (update_tests (store_of limits h).limits x.b place bytes) ≡ first_refusal (update_tests limits x.b place bytes)
     tests_is = ap (λ (l : Bounds). first_refusal (update_tests l x.b place bytes)) (store_limits limits h)
 
@@ -150,7 +150,7 @@ module _ (limits : Bounds) (p : ℕ) (houses : List House) (h : List Event) (ws 
       pub assign_keeps : 1 ≤ length bytes → 1 ≤ blob → (w : WindowState WaitingUpdate) → Keeps limits w.numbered (and_update x.b own_update) → AreWaiting p houses (x.b.updates ++ own_update ∷ []) w
           → w.numbered.blob ≡ blob → w.numbered.page_size ≡ p → KeepsDesk limits p houses (h ++ own_event ∷ []) (set ws (blob - 1) w)
       assign_keeps many some w k waits id page =
-          replaced limits p houses h ws kept own_event blob (and_update x.b own_update) w some (legal_after limits h own_event _ _ assign_is kept.legal many refl) assign_after
+          replaced kept own_event blob (and_update x.b own_update) w some (legal_after limits h own_event _ _ assign_is kept.legal many refl) assign_after
           (window_of limits p houses blob (and_update x.b own_update) w id page k waits)
 
       pub assign_there : blob_at (store_of limits (h ++ own_event ∷ [])) blob ≡ Some (and_update x.b own_update)

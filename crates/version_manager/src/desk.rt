@@ -1,5 +1,5 @@
 // The blobs of a store and its history.
-ghost use Rattle.std.specs.Prelude.{◌≡◌, ℕ, ◌+◌, ◌-◌, ◌^◌, ◌<◌, ◌≤◌, true, false, List, [], ◌∷◌, ◌++◌, Some, None};
+ghost use Rattle.std.specs.Prelude.{◌≡◌, ◌≢◌, ℕ, ◌+◌, ◌-◌, ◌^◌, ◌<◌, ◌≤◌, true, false, List, [], ◌∷◌, ◌++◌, Some, None};
 ghost use Rattle.std.specs.Prelude.{length, map, MatchOption, IfOk, IfErr, OnOk, OnErr, vec_len, vec_capacity};
 ghost use Rattle.std.specs.Arc.{arc_value};
 ghost use Rattle.page_store.specs.Stored.{bytes_of_pages, LieAmong};
@@ -12,6 +12,7 @@ ghost use Rattle.blob_model.specs.History.{is_refused, IsLegal};
 ghost use Rattle.blob_model.specs.declared.call.Call.TheVariants as Calls;
 ghost use Rattle.blob_model.specs.declared.call.Event.TheVariants as Events;
 ghost use Rattle.blob_model.specs.declared.call.Outcome.TheVariants as Outcomes;
+ghost use Rattle.blob_model.specs.declared.call.Refusal.TheVariants as Refusals;
 ghost use Rattle.version_manager.specs.Desks.{empty_desk, store_now, outcome_now, updates_in, window_in, with_event, windows_with, windows_and};
 ghost use Rattle.version_manager.specs.Desks.{is_finished_in, OnRefused, OnNoMemory, IsUnfinished, IsNumbering, IsTicketOf, IsRowFor, HasHints, HasHintsBelow};
 ghost use Rattle.version_manager.specs.Desks.{most_bytes, refusal_in, ticket_refusal, opens_below, unopened_size};
@@ -158,13 +159,10 @@ impl Desk {
         ensures memory { IfErr result (λ fault. OnNoMemory fault (is_refused (outcome_now self.old caller Calls.Create) ≡ false)) }
         ensures same { IfErr result (λ _. self.new ≡ self.old) }
     {
-        let count = self.windows.len() as u64;
-        let limits = self.limits;
-        let limit = limits.max_blobs;
-        if count == limit {
-            return Err(DeskFault::Refused(Refusal::TooManyBlobs { limit }));
-        }
-        let blob = count + 1;
+        let blob = match next_id(&self.windows, self.limits) {
+            Ok(id) => id,
+            Err(refusal) => return Err(DeskFault::Refused(refusal)),
+        };
         let Ok(window) = first_in(self.alloc, blob, self.page_size) else {
             return Err(DeskFault::NoMemory);
         };
@@ -299,13 +297,10 @@ impl Desk {
         if version > published {
             return Err(DeskFault::Refused(Refusal::NotPublished { version, published }));
         }
-        let count = self.windows.len() as u64;
-        let limits = self.limits;
-        let limit = limits.max_blobs;
-        if count == limit {
-            return Err(DeskFault::Refused(Refusal::TooManyBlobs { limit }));
-        }
-        let id = count + 1;
+        let id = match next_id(&self.windows, self.limits) {
+            Ok(id) => id,
+            Err(refusal) => return Err(DeskFault::Refused(refusal)),
+        };
         let Ok(window) = branch_in(self.alloc, parent, id, version) else {
             return Err(DeskFault::NoMemory);
         };
@@ -430,6 +425,20 @@ fn index_of(windows: &Vec<BlobWindow>, blob: u64) -> Option<usize>
         return None;
     }
     Some((blob - 1) as usize)
+}
+
+// The id of the next blob, or why there may be none more.
+fn next_id(windows: &Vec<BlobWindow>, limits: Limits) -> Result<u64, Refusal>
+    ensures id { IfOk result (λ id. id ≡ vec_len windows.now + 1) }
+    ensures fewer { IfOk result (λ _. vec_len windows.now ≢ limits.max_blobs) }
+    ensures full { IfErr result (λ refusal. (refusal ≡ Refusals.TooManyBlobs limits.max_blobs) × (vec_len windows.now ≡ limits.max_blobs)) }
+{
+    let count = windows.len() as u64;
+    let limit = limits.max_blobs;
+    if count == limit {
+        return Err(Refusal::TooManyBlobs { limit });
+    }
+    Ok(count + 1)
 }
 
 // The same pages, shared twice.

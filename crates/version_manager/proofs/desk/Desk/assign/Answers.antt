@@ -34,21 +34,20 @@ use Rattle.version_manager.proofs.desk.Desk.assign.Goals as goal
 
 -- the window of the blob, at whichever look
 abbrev at : (c : After-index-window) (w : WindowState WaitingUpdate) → w ≡ get_or c.self.inside.windows.items c.in-Some.index w
-    → IsAt c.self.inside.limits c.self.inside.page_size (arc_value c.self.inside.houses) (map event_of c.self.inside.history.items) c.self.inside.windows.items c.self.invariant.kept c.args.blob c.in-Some.index w
+    → IsAt c.self.invariant.kept c.args.blob c.in-Some.index w
 at c w read =
     let d = c.self.inside in
-    at_index d.limits d.page_size (arc_value d.houses) (map event_of d.history.items) d.windows.items c.self.invariant.kept c.args.blob c.in-Some.index _ w d.windows.ok.0 c.in-Some.ensures read
+    at_index c.self.invariant.kept c.args.blob c.in-Some.index _ w d.windows.ok.0 c.in-Some.ensures read
 
 -- the store refuses nothing, where the blob takes the update
 accepted : (c : After-index-window) → let x = at c c.index-window.result.now c.index-window.ensures in
     first_refusal (update_tests c.self.inside.limits x.found.b c.args.place (bytes_of_pages (arc_value c.args.pages.now).pages)) ≡ None
     → is_refused (outcome_now c.args.self.now c.args.caller (Calls.Assign c.args.blob c.args.place (bytes_of_pages (arc_value c.args.pages.now).pages))) ≡ false
 accepted c free =
-    let d = c.self.inside in
     let bytes = bytes_of_pages (arc_value c.args.pages.now).pages in
     let x = at c c.index-window.result.now c.index-window.ensures in
     let P : DeskState → Type 0 = λ s. is_refused (outcome_now s c.args.caller (Calls.Assign c.args.blob c.args.place bytes)) ≡ false in
-    subst P c.self.view_is (ap is_refused (assign_outcome d.limits d.page_size (arc_value d.houses) (map event_of d.history.items) d.windows.items c.self.invariant.kept c.args.caller c.args.blob c.args.place bytes x.found free))
+    subst P c.self.view_is (ap is_refused (assign_outcome c.self.invariant.kept c.args.caller c.args.blob c.args.place bytes x.found free))
 
 pub ticket_over-requires-clause-kept : goal.ticket_over-requires-clause-kept
 ticket_over-requires-clause-kept c = let x = at (goal.at.ticket_over-requires-clause-kept c).After-index-window c.index-window.result.now c.index-window.ensures in (x.found.b, x.keeps)
@@ -60,11 +59,10 @@ ticket_over-requires-clause-page_size c =
 
 pub returns-in-Err-clause-refused : goal.returns-in-Err-clause-refused
 returns-in-Err-clause-refused c =
-    let d = c.self.inside in
     let bytes = bytes_of_pages (arc_value c.args.pages.now).pages in
     let x = at (goal.at.returns-in-Err-clause-refused c).After-index-window c.index-window.result.now c.index-window.ensures in
     let P : DeskState → Type 0 = λ s. OnRefused c.in-Err.fault (λ refusal. (answer (store_of s.limits s.history) c.args.caller (Calls.Assign c.args.blob c.args.place bytes)).1 ≡ Outcomes.Refused refusal) in
-    subst P c.self.view_is (assign_fault d.limits d.page_size (arc_value d.houses) (map event_of d.history.items) d.windows.items c.self.invariant.kept c.args.caller c.args.blob c.args.place bytes x.found c.in-Err.fault
+    subst P c.self.view_is (assign_fault c.self.invariant.kept c.args.caller c.args.blob c.args.place bytes x.found c.in-Err.fault
     (c.in-Err.ensures.refused x.found.b x.keeps))
 
 pub returns-in-Err-clause-memory : goal.returns-in-Err-clause-memory
@@ -149,21 +147,20 @@ invariant_of-self-2 c =
     let own = subst (λ (n : ℕ). IsWaitingUpdate d.page_size houses (b.updates ++ u ∷ []) (suc n) update) (x.keeps.stands.counted ∙ ap (λ (v : Numbered). length v.log) (x.window ∙ sym y.window)) last in
     let waits = numbered_wait d.page_size houses (b.updates ++ u ∷ []) w after touch update (list_stays d.page_size houses b.updates (u ∷ []) w
     (subst (AreWaiting d.page_size houses b.updates) (x.whole ∙ sym y.whole) x.waits)) count own is c.in-Ok-number.ensures.updates in
-    let keeps = assign_keeps d.limits d.page_size houses h d.windows.items c.self.invariant.kept c.args.caller blob c.args.place bytes x.found (c.in-Ok.ensures.accepted b x.keeps) c.requires.some x.some after
+    let keeps = assign_keeps c.self.invariant.kept c.args.caller blob c.args.place bytes x.found (c.in-Ok.ensures.accepted b x.keeps) c.requires.some x.some after
     (subst (λ (v : Numbered). Keeps d.limits v (and_update b u)) (sym seen) (c.in-Ok.ensures.kept b u x.keeps refl refl)) waits (ap (λ (v : Numbered). v.blob) is ∙ y.id) (ap (λ (v : Numbered). v.page_size) is ∙ y.page) in
     let entry : Entry = record { caller = c.args.caller; change = Changes.Assign blob c.args.place c.in-Ok-shared_twice.pages } in
     let e : Event = Events.Assign c.args.caller blob c.args.place bytes in
     let pushed = c.push_reserved.ensures.items ∙ ap (λ (l : List Entry). l ++ entry ∷ []) c.make_room.ensures.items in
-    desk_changed d.limits d.page_size houses nodes h d.windows.items c.self.invariant _ e blob c.in-Some.index after
+    desk_changed c.self.invariant _ e blob c.in-Some.index after
     (numbered_event d.history.items c.make_room.new.history.items c.push_reserved.new.self.items c.args.caller blob c.args.place c.in-Ok-shared_twice.pages _ c.make_room.ensures.items c.push_reserved.ensures.items c.in-Ok-shared_twice.ensures.0)
     x.at x.some refl keeps
-    (subst (λ (v : Numbered). AreRowsIn nodes houses v) (sym is) (numbered_in nodes houses w.numbered touch (lies_at d.limits d.page_size houses nodes h d.windows.items c.self.invariant blob c.in-Some.index w y)))
-    (subst (λ (v : Numbered). AreUnder (parents_of h) blob v.rows) (sym is) (numbered_under (parents_of h) blob w.numbered touch (under_at d.limits d.page_size houses nodes h d.windows.items c.self.invariant blob c.in-Some.index w y)))
+    (subst (λ (v : Numbered). AreRowsIn nodes houses v) (sym is) (numbered_in nodes houses w.numbered touch (lies_at c.self.invariant blob c.in-Some.index w y)))
+    (subst (λ (v : Numbered). AreUnder (parents_of h) blob v.rows) (sym is) (numbered_under (parents_of h) blob w.numbered touch (under_at c.self.invariant blob c.in-Some.index w y)))
     (short_yet d.history.items c.push_reserved.new.self.items entry pushed c.in-Ok-make_room.ensures.short) tt
 
 pub returns-clause-assigned : goal.returns-clause-assigned
 returns-clause-assigned c =
-    let d = c.self.inside in
     let blob = c.args.blob in
     let t = c.in-Ok.ticket in
     let bytes = bytes_of_pages (arc_value c.args.pages.now).pages in
@@ -171,7 +168,7 @@ returns-clause-assigned c =
     let b : Blob = x.found.b in
     let P : DeskState → Type 0 = λ s. (answer (store_of s.limits s.history) c.args.caller (Calls.Assign blob c.args.place bytes)).1 ≡ Outcomes.Assigned t.version t.at t.size in
     subst P c.self.view_is (
-    assign_outcome d.limits d.page_size (arc_value d.houses) (map event_of d.history.items) d.windows.items c.self.invariant.kept c.args.caller blob c.args.place bytes x.found (c.in-Ok.ensures.accepted b x.keeps)
+    assign_outcome c.self.invariant.kept c.args.caller blob c.args.place bytes x.found (c.in-Ok.ensures.accepted b x.keeps)
     ∙ ap (λ (n : ℕ). Outcomes.Assigned n (offset_of c.args.place (size_now b)) (size_with b c.args.place bytes)) (sym (c.in-Ok.ensures.version b x.keeps))
     ∙ ap (λ (n : ℕ). Outcomes.Assigned t.version n (size_with b c.args.place bytes)) (sym (c.in-Ok.ensures.at b x.keeps))
     ∙ ap (λ (n : ℕ). Outcomes.Assigned t.version t.at n) (sym (c.in-Ok.ensures.size b x.keeps))
@@ -192,7 +189,7 @@ returns-clause-numbering c =
     }
 
 -- the blob, once the update is entered
-entered : (c : After-push_reserved) → let x = at_index c.self.inside.limits c.self.inside.page_size (arc_value c.self.inside.houses) (map event_of c.self.inside.history.items) c.self.inside.windows.items c.self.invariant.kept
+entered : (c : After-push_reserved) → let x = at_index c.self.invariant.kept
     c.args.blob c.in-Some.index _ c.index-window.result.now c.self.inside.windows.ok.0 c.in-Some.ensures c.index-window.ensures in
     blob_at (store_of c.self.inside.limits (map event_of c.push_reserved.new.self.items)) c.args.blob
     ≡ Some (and_update x.found.b record { caller = c.args.caller; place = c.args.place; bytes = bytes_of_pages (arc_value c.args.pages.now).pages })
@@ -200,12 +197,12 @@ entered c =
     let d = c.self.inside in
     let blob = c.args.blob in
     let bytes = bytes_of_pages (arc_value c.args.pages.now).pages in
-    let x = at_index d.limits d.page_size (arc_value d.houses) (map event_of d.history.items) d.windows.items c.self.invariant.kept blob c.in-Some.index _ c.index-window.result.now d.windows.ok.0 c.in-Some.ensures
+    let x = at_index c.self.invariant.kept blob c.in-Some.index _ c.index-window.result.now d.windows.ok.0 c.in-Some.ensures
     c.index-window.ensures in
     let history = numbered_event d.history.items c.make_room.new.history.items c.push_reserved.new.self.items c.args.caller blob c.args.place c.in-Ok-shared_twice.pages _ c.make_room.ensures.items c.push_reserved.ensures.items
     c.in-Ok-shared_twice.ensures.0 in
     ap (λ (l : List Event). blob_at (store_of d.limits l) blob) history
-    ∙ assign_there d.limits d.page_size (arc_value d.houses) (map event_of d.history.items) d.windows.items c.self.invariant.kept c.args.caller blob c.args.place bytes x.found (c.in-Ok.ensures.accepted x.found.b x.keeps)
+    ∙ assign_there c.self.invariant.kept c.args.caller blob c.args.place bytes x.found (c.in-Ok.ensures.accepted x.found.b x.keeps)
 
 pub returns-clause-ticket : goal.returns-clause-ticket
 returns-clause-ticket c =
@@ -255,8 +252,8 @@ returns-clause-hints c =
     let t = c.in-Ok.ticket in
     let w = c.index-window.result.now in
     let x = at (goal.at.returns-clause-hints c).After-index-window w c.index-window.ensures in
-    let lies = lies_at d.limits d.page_size (arc_value d.houses) (arc_value d.nodes) h d.windows.items c.self.invariant blob c.in-Some.index w x in
-    let under = under_at d.limits d.page_size (arc_value d.houses) (arc_value d.nodes) h d.windows.items c.self.invariant blob c.in-Some.index w x in
+    let lies = lies_at c.self.invariant blob c.in-Some.index w x in
+    let under = under_at c.self.invariant blob c.in-Some.index w x in
     let P : DeskState → Type 0 = λ s. HasHints s blob t in
     subst P c.self.view_is (has_hints _ blob t x.found.b w.numbered d.limits x.found.at x.id x.page x.keeps (sym c.stands.ensures.log) (subst (λ (v : Version). IsVersion v) c.in-Ok.ensures.snapshot c.in-Ok.ensures.published)
     c.in-Ok.ensures.snapshot c.in-Ok.ensures.waiting lies (version_under h blob w.numbered under))

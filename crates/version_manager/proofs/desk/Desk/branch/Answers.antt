@@ -2,9 +2,8 @@ use Rattle.std.proofs.Common.{◌≡◌, ℕ, ◌+◌, ◌-◌, ◌<◌, ◌≤�
 use Rattle.std.specs.Prelude.{Some}
 use Rattle.std.specs.Arc.{arc_value}
 use Rattle.std.proofs.lemmas.List.{map-append, length-map}
-use Rattle.blob_model.specs.Limits.{Bounds}
-use Rattle.blob_model.specs.Answer.{answer}
-use Rattle.blob_model.specs.History.{store_of, is_refused}
+use Rattle.blob_model.specs.History.{is_refused}
+use Rattle.blob_model.specs.declared.call.Refusal.{Refusal}
 use Rattle.blob_model.specs.declared.call.Call.TheVariants as Calls
 use Rattle.blob_model.specs.declared.call.Event.{Event}
 use Rattle.blob_model.specs.declared.call.Event.TheVariants as Events
@@ -16,44 +15,64 @@ use Rattle.snapshot.specs.Versions.{older_version, under_blob}
 use Rattle.publisher.proofs.Leading.{published_counts}
 use Rattle.version_manager.specs.declared.entry.Entry.{Entry}
 use Rattle.version_manager.specs.declared.entry.Change.TheVariants as Changes
-use Rattle.version_manager.specs.Desks.{DeskState, no_window, with_event, windows_and, window_in}
+use Rattle.version_manager.specs.Desks.{DeskState, outcome_now, no_window, with_event, windows_and, window_in}
 use Rattle.version_manager.specs.Entries.{event_of}
 use Rattle.version_manager.specs.DeskInvariant.{seen_in, numbered_of}
 use Rattle.version_manager.specs.Origins.{parents_of, AreUnder}
-use Rattle.version_manager.proofs.Desks.{at_index, pushed_event, short_yet}
+use Rattle.version_manager.proofs.Desks.{IsAt, at_index, pushed_event, short_yet}
 use Rattle.version_manager.proofs.NewBlobs.{branch_ahead, branch_full, branch_outcome, branch_keeps}
 use Rattle.version_manager.proofs.Houses.{AreRowsIn, branch_in_houses}
 use Rattle.version_manager.proofs.Keeping.{lies_at, under_at, desk_and}
 use Rattle.version_manager.proofs.Origins.{branch_under}
+use Rattle.version_manager.proofs.desk.Desk.branch.Goals.{After-published-published, After-branch_in}
 use Rattle.version_manager.proofs.desk.Desk.branch.Goals as goal
+
+-- the parent's window
+at : (c : After-published-published)
+    → IsAt c.self.invariant.kept c.args.blob c.in-Some.index c.index-parent.result.now
+at c =
+    let d = c.self.inside in
+    at_index c.self.invariant.kept c.args.blob c.in-Some.index _ c.index-parent.result.now d.windows.ok.0 c.in-Some.ensures c.index-parent.ensures
+
+-- its published version
+front : (c : After-published-published) → c.published-published.result ≡ published_of (get_or (numbered_of c.self.inside.windows.items) (c.args.blob - 1) no_window)
+front c = c.published-published.ensures ∙ ap published_of (at c).window
+
+-- there may be one blob more
+abbrev fewer : (c : After-branch_in) → length c.self.inside.windows.items ≡ c.self.inside.limits.max_blobs → ⊥
+fewer c e = c.in-Ok.ensures.fewer (omega (arith, e, c.self.inside.windows.ok.0))
+
+-- and the store makes it
+outcome : (c : After-branch_in)
+    → IsAt c.self.invariant.kept c.args.blob c.in-Some.index c.index-parent.result.now
+    → c.published-published.result ≡ published_of (get_or (numbered_of c.self.inside.windows.items) (c.args.blob - 1) no_window)
+    → outcome_now c.args.self.now c.args.caller (Calls.Branch c.args.blob c.args.version) ≡ Outcomes.Blob c.in-Ok.id
+outcome c x is =
+    let d = c.self.inside in
+    let same : length d.windows.items + 1 ≡ c.in-Ok.id = omega (arith, c.in-Ok.ensures.id, d.windows.ok.0) in
+    let le : c.args.version ≤ published_of (get_or (numbered_of d.windows.items) (c.args.blob - 1) no_window) = omega (arith, is, c.if-version-published.false) in
+    let P : DeskState → Type 0 = λ s. outcome_now s c.args.caller (Calls.Branch c.args.blob c.args.version) ≡ Outcomes.Blob c.in-Ok.id in
+    subst P c.self.view_is (branch_outcome c.self.invariant.kept c.args.caller c.args.blob c.args.version x.found le (fewer c)
+    ∙ ap (λ (n : ℕ). Outcomes.Blob n) same)
 
 pub returns-then-version-published-clause-refused : goal.returns-then-version-published-clause-refused
 returns-then-version-published-clause-refused c =
     let d = c.self.inside in
-    let h = map event_of d.history.items in
-    let ws = d.windows.items in
-    let blob = c.args.blob in
-    let version = c.args.version in
-    let x = at_index d.limits d.page_size (arc_value d.houses) h ws c.self.invariant.kept blob c.in-Some.index _ c.index-parent.result.now d.windows.ok.0 c.in-Some.ensures c.index-parent.ensures in
-    let is : c.published-published.result ≡ published_of (get_or (numbered_of ws) (blob - 1) no_window) = c.published-published.ensures ∙ ap published_of x.window in
-    let lt : published_of (get_or (numbered_of ws) (blob - 1) no_window) < version = omega (arith, is, c.if-version-published.true) in
-    let P : DeskState → Type 0 = λ s. (answer (store_of s.limits s.history) c.args.caller (Calls.Branch blob version)).1 ≡ Outcomes.Refused (Refusals.NotPublished version c.published-published.result) in
-    subst P c.self.view_is (branch_ahead d.limits d.page_size (arc_value d.houses) h ws c.self.invariant.kept c.args.caller blob version x.found lt ∙ ap (λ (n : ℕ). Outcomes.Refused (Refusals.NotPublished version n)) (sym is))
+    let here = (goal.at.returns-then-version-published-clause-refused c).After-published-published in
+    let lt : published_of (get_or (numbered_of d.windows.items) (c.args.blob - 1) no_window) < c.args.version = omega (arith, front here, c.if-version-published.true) in
+    let P : DeskState → Type 0 = λ s. outcome_now s c.args.caller (Calls.Branch c.args.blob c.args.version) ≡ Outcomes.Refused (Refusals.NotPublished c.args.version c.published-published.result) in
+    subst P c.self.view_is (branch_ahead c.self.invariant.kept c.args.caller c.args.blob c.args.version (at here).found lt
+    ∙ ap (λ (n : ℕ). Outcomes.Refused (Refusals.NotPublished c.args.version n)) (sym (front here)))
 
-pub returns-then-count-limit-clause-refused : goal.returns-then-count-limit-clause-refused
-returns-then-count-limit-clause-refused c =
+pub returns-in-Err-clause-refused : goal.returns-in-Err-clause-refused
+returns-in-Err-clause-refused c =
     let d = c.self.inside in
-    let h = map event_of d.history.items in
-    let ws = d.windows.items in
-    let blob = c.args.blob in
-    let version = c.args.version in
-    let x = at_index d.limits d.page_size (arc_value d.houses) h ws c.self.invariant.kept blob c.in-Some.index _ c.index-parent.result.now d.windows.ok.0 c.in-Some.ensures c.index-parent.ensures in
-    let is : c.published-published.result ≡ published_of (get_or (numbered_of ws) (blob - 1) no_window) = c.published-published.ensures ∙ ap published_of x.window in
-    let le : version ≤ published_of (get_or (numbered_of ws) (blob - 1) no_window) = omega (arith, is, c.if-version-published.false) in
-    let most : c.limits.inside.max_blobs ≡ d.limits.max_blobs = ap (λ (l : Bounds). l.max_blobs) c.limits.view_is in
-    let full : length ws ≡ d.limits.max_blobs = omega (arith, most, c.len-count.ensures, c.if-count-limit.true, d.windows.ok.0) in
-    let P : DeskState → Type 0 = λ s. (answer (store_of s.limits s.history) c.args.caller (Calls.Branch blob version)).1 ≡ Outcomes.Refused (Refusals.TooManyBlobs c.limits.inside.max_blobs) in
-    subst P c.self.view_is (branch_full d.limits d.page_size (arc_value d.houses) h ws c.self.invariant.kept c.args.caller blob version x.found le full ∙ ap (λ (n : ℕ). Outcomes.Refused (Refusals.TooManyBlobs n)) (sym most))
+    let here = (goal.at.returns-in-Err-clause-refused c).After-published-published in
+    let le : c.args.version ≤ published_of (get_or (numbered_of d.windows.items) (c.args.blob - 1) no_window) = omega (arith, front here, c.if-version-published.false) in
+    let full : length d.windows.items ≡ d.limits.max_blobs = omega (arith, c.in-Err.ensures.full.1, d.windows.ok.0) in
+    let P : DeskState → Type 0 = λ s. outcome_now s c.args.caller (Calls.Branch c.args.blob c.args.version) ≡ Outcomes.Refused c.in-Err.refusal in
+    subst P c.self.view_is (branch_full c.self.invariant.kept c.args.caller c.args.blob c.args.version (at here).found le full
+    ∙ ap (λ (r : Refusal). Outcomes.Refused r) (sym c.in-Err.ensures.full.0))
 
 pub invariant_of-self-2 : goal.invariant_of-self-2
 invariant_of-self-2 c =
@@ -65,26 +84,24 @@ invariant_of-self-2 c =
     let blob = c.args.blob in
     let version = c.args.version in
     let before = c.index-parent.result.now in
-    let x = at_index d.limits d.page_size houses h ws c.self.invariant.kept blob c.in-Some.index _ before d.windows.ok.0 c.in-Some.ensures c.index-parent.ensures in
-    let is : c.published-published.result ≡ published_of (get_or (numbered_of ws) (blob - 1) no_window) = c.published-published.ensures ∙ ap published_of x.window in
-    let w = c.in-Ok.window in
-    let le : version ≤ published_of (get_or (numbered_of ws) (blob - 1) no_window) = omega (arith, is, c.if-version-published.false) in
-    let most : c.limits.inside.max_blobs ≡ d.limits.max_blobs = ap (λ (l : Bounds). l.max_blobs) c.limits.view_is in
-    let long : c.len-count.result ≡ length ws = omega (arith, c.len-count.ensures, d.windows.ok.0) in
-    let apart : length ws ≡ d.limits.max_blobs → ⊥ = λ e. c.if-count-limit.false (long ∙ e ∙ sym most) in
-    let id : w.numbered.blob ≡ length ws + 1 = ap (λ (v : Numbered). v.blob) c.in-Ok.ensures.new ∙ ap (λ (n : ℕ). n + 1) long in
-    let page : w.numbered.page_size ≡ d.page_size = ap (λ (v : Numbered). v.page_size) c.in-Ok.ensures.new ∙ x.page in
-    let keeps = branch_keeps d.limits d.page_size houses h ws c.self.invariant.kept c.args.caller blob version x.found le apart w (c.in-Ok.ensures.kept d.limits x.found.b x.keeps) c.in-Ok.ensures.none id page in
+    let here = (goal.at.invariant_of-self-2 c).After-published-published in
+    let x = at here in
+    let w = c.in-Ok-branch_in.window in
+    let new = c.in-Ok-branch_in.ensures.new in
+    let le : version ≤ published_of (get_or (numbered_of ws) (blob - 1) no_window) = omega (arith, front here, c.if-version-published.false) in
+    let same : c.in-Ok.id ≡ length ws + 1 = omega (arith, c.in-Ok.ensures.id, d.windows.ok.0) in
+    let keeps = branch_keeps c.self.invariant.kept c.args.caller blob version x.found le (fewer (goal.at.invariant_of-self-2 c).After-branch_in) w
+    (c.in-Ok-branch_in.ensures.kept d.limits x.found.b x.keeps) c.in-Ok-branch_in.ensures.none (ap (λ (v : Numbered). v.blob) new ∙ same) (ap (λ (v : Numbered). v.page_size) new ∙ x.page) in
     let entry : Entry = record { caller = c.args.caller; change = Changes.Branch blob version } in
-    let lies = branch_in_houses nodes houses before.numbered version (c.len-count.result + 1) (lies_at d.limits d.page_size houses nodes h ws c.self.invariant blob c.in-Some.index before x) in
+    let lies = branch_in_houses nodes houses before.numbered version c.in-Ok.id (lies_at c.self.invariant blob c.in-Some.index before x) in
     let parent : Parent = record { blob = blob; version = version } in
     let far : version ≤ length (leading before.numbered.rows) = omega (arith, c.published-published.ensures, c.if-version-published.false, published_counts before.numbered.rows) in
     let under = branch_under (parents_of h) parent before.numbered (suc (length ws)) (omega (arith, c.self.invariant.origins.count, length-map ws seen_in)) far
-    (under_at d.limits d.page_size houses nodes h ws c.self.invariant blob c.in-Some.index before x) in
-    desk_and d.limits d.page_size houses nodes h ws c.self.invariant _ (Events.Branch c.args.caller blob version) (Some parent) w _
+    (under_at c.self.invariant blob c.in-Some.index before x) in
+    desk_and c.self.invariant _ (Events.Branch c.args.caller blob version) (Some parent) w _
     (pushed_event d.history.items c.add.new.history.items entry c.in-Ok-add.ensures.history) c.in-Ok-add.ensures.windows refl keeps
-    (subst (λ (v : Numbered). AreRowsIn nodes houses v) (sym c.in-Ok.ensures.new) lies)
-    (subst (λ (v : Numbered). AreUnder (Some parent ∷ parents_of h) (suc (length ws)) v.rows) (sym c.in-Ok.ensures.new) under)
+    (subst (λ (v : Numbered). AreRowsIn nodes houses v) (sym new) lies)
+    (subst (λ (v : Numbered). AreUnder (Some parent ∷ parents_of h) (suc (length ws)) v.rows) (sym new) under)
     (short_yet d.history.items _ _ c.in-Ok-add.ensures.history c.in-Ok-add.ensures.short) tt
 
 pub returns-clause-new : goal.returns-clause-new
@@ -95,58 +112,25 @@ returns-clause-new c =
     let ws = d.windows.items in
     let blob = c.args.blob in
     let version = c.args.version in
-    let x = at_index d.limits d.page_size (arc_value d.houses) h ws c.self.invariant.kept blob c.in-Some.index _ c.index-parent.result.now d.windows.ok.0 c.in-Some.ensures c.index-parent.ensures in
+    let x = at (goal.at.returns-clause-new c).After-published-published in
     let e : Event = Events.Branch c.args.caller blob version in
-    let made : Numbered → Numbered = λ w. window_on (under_blob (older_version (version_of w) version) (c.len-count.result + 1)) in
+    let made : Numbered → Numbered = λ w. window_on (under_blob (older_version (version_of w) version) c.in-Ok.id) in
     let history = pushed_event d.history.items c.add.new.history.items record { caller = c.args.caller; change = Changes.Branch blob version } c.in-Ok-add.ensures.history in
-    let windows = ap numbered_of c.in-Ok-add.ensures.windows ∙ map-append seen_in ws (c.in-Ok.window ∷ []) ∙ ap (λ (w : Numbered). numbered_of ws ++ w ∷ []) (c.in-Ok.ensures.new ∙ ap made x.window) in
+    let windows = ap numbered_of c.in-Ok-add.ensures.windows ∙ map-append seen_in ws (c.in-Ok-branch_in.window ∷ []) ∙ ap (λ (w : Numbered). numbered_of ws ++ w ∷ []) (c.in-Ok-branch_in.ensures.new ∙ ap made x.window) in
     let P : DeskState → Type 0 = λ s. desk (map event_of c.add.new.history.items) (numbered_of c.add.new.windows.items) ≡ with_event s e (windows_and s (made (window_in s blob))) in
     subst P c.self.view_is (ap (λ (l : List Event). desk l (numbered_of c.add.new.windows.items)) history ∙ ap (desk (h ++ e ∷ [])) windows)
 
 pub returns-clause-blob : goal.returns-clause-blob
 returns-clause-blob c =
-    let d = c.self.inside in
-    let h = map event_of d.history.items in
-    let ws = d.windows.items in
-    let blob = c.args.blob in
-    let version = c.args.version in
-    let x = at_index d.limits d.page_size (arc_value d.houses) h ws c.self.invariant.kept blob c.in-Some.index _ c.index-parent.result.now d.windows.ok.0 c.in-Some.ensures c.index-parent.ensures in
-    let is : c.published-published.result ≡ published_of (get_or (numbered_of ws) (blob - 1) no_window) = c.published-published.ensures ∙ ap published_of x.window in
-    let le : version ≤ published_of (get_or (numbered_of ws) (blob - 1) no_window) = omega (arith, is, c.if-version-published.false) in
-    let most : c.limits.inside.max_blobs ≡ d.limits.max_blobs = ap (λ (l : Bounds). l.max_blobs) c.limits.view_is in
-    let long : c.len-count.result ≡ length ws = omega (arith, c.len-count.ensures, d.windows.ok.0) in
-    let apart : length ws ≡ d.limits.max_blobs → ⊥ = λ e. c.if-count-limit.false (long ∙ e ∙ sym most) in
-    let P : DeskState → Type 0 = λ s. (answer (store_of s.limits s.history) c.args.caller (Calls.Branch blob version)).1 ≡ Outcomes.Blob (c.len-count.result + 1) in
-    subst P c.self.view_is (branch_outcome d.limits d.page_size (arc_value d.houses) h ws c.self.invariant.kept c.args.caller blob version x.found le apart ∙ ap (λ (n : ℕ). Outcomes.Blob (n + 1)) (sym long))
+    let here = (goal.at.returns-clause-blob c).After-published-published in
+    outcome (goal.at.returns-clause-blob c).After-branch_in (at here) (front here)
 
 pub returns-in_default-branch_in-clause-memory : goal.returns-in_default-branch_in-clause-memory
 returns-in_default-branch_in-clause-memory c =
-    let d = c.self.inside in
-    let h = map event_of d.history.items in
-    let ws = d.windows.items in
-    let blob = c.args.blob in
-    let version = c.args.version in
-    let x = at_index d.limits d.page_size (arc_value d.houses) h ws c.self.invariant.kept blob c.in-Some.index _ c.index-parent.result.now d.windows.ok.0 c.in-Some.ensures c.index-parent.ensures in
-    let is : c.published-published.result ≡ published_of (get_or (numbered_of ws) (blob - 1) no_window) = c.published-published.ensures ∙ ap published_of x.window in
-    let le : version ≤ published_of (get_or (numbered_of ws) (blob - 1) no_window) = omega (arith, is, c.if-version-published.false) in
-    let most : c.limits.inside.max_blobs ≡ d.limits.max_blobs = ap (λ (l : Bounds). l.max_blobs) c.limits.view_is in
-    let long : c.len-count.result ≡ length ws = omega (arith, c.len-count.ensures, d.windows.ok.0) in
-    let apart : length ws ≡ d.limits.max_blobs → ⊥ = λ e. c.if-count-limit.false (long ∙ e ∙ sym most) in
-    let P : DeskState → Type 0 = λ s. is_refused (answer (store_of s.limits s.history) c.args.caller (Calls.Branch blob version)).1 ≡ false in
-    subst P c.self.view_is (ap is_refused (branch_outcome d.limits d.page_size (arc_value d.houses) h ws c.self.invariant.kept c.args.caller blob version x.found le apart))
+    let here = (goal.at.returns-in_default-branch_in-clause-memory c).After-published-published in
+    ap is_refused (outcome (goal.at.returns-in_default-branch_in-clause-memory c).After-branch_in (at here) (front here))
 
 pub returns-in_default-add-clause-memory : goal.returns-in_default-add-clause-memory
 returns-in_default-add-clause-memory c =
-    let d = c.self.inside in
-    let h = map event_of d.history.items in
-    let ws = d.windows.items in
-    let blob = c.args.blob in
-    let version = c.args.version in
-    let x = at_index d.limits d.page_size (arc_value d.houses) h ws c.self.invariant.kept blob c.in-Some.index _ c.index-parent.result.now d.windows.ok.0 c.in-Some.ensures c.index-parent.ensures in
-    let is : c.published-published.result ≡ published_of (get_or (numbered_of ws) (blob - 1) no_window) = c.published-published.ensures ∙ ap published_of x.window in
-    let le : version ≤ published_of (get_or (numbered_of ws) (blob - 1) no_window) = omega (arith, is, c.if-version-published.false) in
-    let most : c.limits.inside.max_blobs ≡ d.limits.max_blobs = ap (λ (l : Bounds). l.max_blobs) c.limits.view_is in
-    let long : c.len-count.result ≡ length ws = omega (arith, c.len-count.ensures, d.windows.ok.0) in
-    let apart : length ws ≡ d.limits.max_blobs → ⊥ = λ e. c.if-count-limit.false (long ∙ e ∙ sym most) in
-    let P : DeskState → Type 0 = λ s. is_refused (answer (store_of s.limits s.history) c.args.caller (Calls.Branch blob version)).1 ≡ false in
-    subst P c.self.view_is (ap is_refused (branch_outcome d.limits d.page_size (arc_value d.houses) h ws c.self.invariant.kept c.args.caller blob version x.found le apart))
+    let here = (goal.at.returns-in_default-add-clause-memory c).After-published-published in
+    ap is_refused (outcome (goal.at.returns-in_default-add-clause-memory c).After-branch_in (at here) (front here))

@@ -35,24 +35,22 @@ use Rattle.version_manager.proofs.desk.Desk.finish.Goals as goal
 
 -- the row fits the window of the ticket's blob, at whichever look
 found : (c : After-index-window) (w : WindowState WaitingUpdate) → w ≡ get_or c.self.inside.windows.items (c.blob-blob.result - 1) w
-    → IsFinishable c.self.inside.limits c.self.inside.page_size (arc_value c.self.inside.houses) (map event_of c.self.inside.history.items) c.self.inside.windows.items c.self.invariant.kept c.blob-blob.result
-    c.version-version.result w (arc_value c.args.row)
+    → IsFinishable c.self.invariant.kept c.blob-blob.result c.version-version.result w (arc_value c.args.row)
 found c w read =
     let d = c.self.inside in
     let t = c.args.ticket.now in
     let row = arc_value c.args.row in
     let is = c.version-version.ensures.version in
-    finishable d.limits d.page_size (arc_value d.houses) (map event_of d.history.items) d.windows.items c.self.invariant.kept c.blob-blob.result (arc_value d.nodes) t c.version-version.result w row c.blob-blob.ensures is
+    finishable c.self.invariant.kept c.blob-blob.result (arc_value d.nodes) t c.version-version.result w row c.blob-blob.ensures is
     (omega (arith, is, c.version-version.ensures.stands.version)) (subst (λ (s : DeskState). IsTicketOf s t) (sym c.self.view_is) c.requires.ticket)
     (subst (λ (s : DeskState). IsRowFor s t row) (sym c.self.view_is) c.requires.row) read
 
 -- what is said of the version of that blob is said of the ticket's
-said : (c : After-index-window) (P : DeskState → ℕ → ℕ → Type 0)
-    → P (this c.self.inside.limits c.self.inside.page_size (arc_value c.self.inside.houses) (map event_of c.self.inside.history.items) c.self.inside.windows.items c.self.invariant.kept c.blob-blob.result (arc_value c.self.inside.nodes))
-    c.blob-blob.result c.version-version.result → P c.args.self.now c.args.ticket.now.blob c.args.ticket.now.version
+said : (c : After-index-window) (P : DeskState → ℕ → ℕ → Type 0) → P (this c.self.invariant.kept c.blob-blob.result (arc_value c.self.inside.nodes)) c.blob-blob.result c.version-version.result
+    → P c.args.self.now c.args.ticket.now.blob c.args.ticket.now.version
 said c P here =
     let t = c.args.ticket.now in
-    let d = this c.self.inside.limits c.self.inside.page_size (arc_value c.self.inside.houses) (map event_of c.self.inside.history.items) c.self.inside.windows.items c.self.invariant.kept c.blob-blob.result (arc_value c.self.inside.nodes) in
+    let d = this c.self.invariant.kept c.blob-blob.result (arc_value c.self.inside.nodes) in
     subst (λ (s : DeskState). P s t.blob t.version) c.self.view_is
     (subst (λ (n : ℕ). P d t.blob n) c.version-version.ensures.version (subst (λ (i : ℕ). P d i c.version-version.result) c.blob-blob.ensures here))
 
@@ -71,7 +69,7 @@ told : (c : After-index-window) (o : Option Refusal)
     → o ≡ first_refusal (already (looked c) c.version-version.result ∷ [])
 told c o is =
     let f = found c c.index-window.result.now c.index-window.ensures in
-    finishable_told _ _ _ _ _ _ _ c.version-version.result c.index-window.result.now _ f o (is c.self.inside.limits f.at.found.b f.at.keeps)
+    finishable_told _ _ c.version-version.result c.index-window.result.now _ f o (is c.self.inside.limits f.at.found.b f.at.keeps)
 
 pub finish-requires-clause-numbered : goal.finish-requires-clause-numbered
 finish-requires-clause-numbered c = let f = found (goal.at.finish-requires-clause-numbered c).After-index-window c.index_mut.result.now c.index_mut.ensures.value in (f.first, f.numbered)
@@ -99,16 +97,16 @@ invariant_of-self-in-Ok-finish c =
     let even = subst (λ (x : WindowState WaitingUpdate). length x.numbered.rows ≡ length x.numbered.log) (g.at.whole ∙ sym f.at.whole) (sym c.stands.ensures.log) in
     let left : after.updates ≡ drop (published_of after.numbered - published_of w.numbered) w.updates =
     done.updates ∙ ap (λ (n : ℕ). drop (n - published_of w.numbered) w.updates) (done.published ∙ sym (ap published_of done.finished)) in
-    let keeps = finished_keeps d.limits d.page_size houses h d.windows.items c.self.invariant.kept blob c.args.caller v w after row f even done.unfinished done.finished left in
+    let keeps = finished_keeps c.self.invariant.kept blob c.args.caller v w after row f even done.unfinished done.finished left in
     let entry : Entry = record { caller = c.args.caller; change = Changes.Finish blob v } in
     let pushed = c.push_reserved.ensures.items ∙ ap (λ (l : List Entry). l ++ entry ∷ []) c.make_room.ensures.items in
     let fits : IsRowIn nodes houses row = subst (λ (s : DeskState). IsRowIn s.nodes s.houses row) (sym c.self.view_is) c.requires.here in
-    let lies = finished_in nodes houses w.numbered v row fits (lies_at d.limits d.page_size houses nodes h d.windows.items c.self.invariant blob (blob - 1) w f.at) in
+    let lies = finished_in nodes houses w.numbered v row fits (lies_at c.self.invariant blob (blob - 1) w f.at) in
     let under = finished_under (parents_of h) blob w.numbered v row (c.requires.under ∙ sym c.blob-blob.ensures) (unfinished_none w.numbered.rows (v - 1) done.unfinished)
-    (under_at d.limits d.page_size houses nodes h d.windows.items c.self.invariant blob (blob - 1) w f.at) in
+    (under_at c.self.invariant blob (blob - 1) w f.at) in
     let I : ℕ → ℕ → Type 0 = λ i n. IsInOrder d.page_size (store_of d.limits h) i n in
     let order : I c.args.ticket.now.blob c.args.ticket.now.version = subst (λ (s : DeskState). IsInOrder s.page_size (store_now s) c.args.ticket.now.blob c.args.ticket.now.version) (sym c.self.view_is) c.requires.in_order in
-    desk_changed d.limits d.page_size houses nodes h d.windows.items c.self.invariant _ (Events.Finish c.args.caller blob v) blob (blob - 1) after (pushed_event d.history.items c.push_reserved.new.self.items entry pushed) refl
+    desk_changed c.self.invariant _ (Events.Finish c.args.caller blob v) blob (blob - 1) after (pushed_event d.history.items c.push_reserved.new.self.items entry pushed) refl
     f.at.some refl keeps (subst (λ (x : Numbered). AreRowsIn nodes houses x) (sym done.finished) lies) (subst (λ (x : Numbered). AreUnder (parents_of h) blob x.rows) (sym done.finished) under)
     (short_yet d.history.items c.push_reserved.new.self.items entry pushed c.in-Ok.ensures.short)
     (subst (λ (i : ℕ). I i v) (sym c.blob-blob.ensures) (subst (λ (n : ℕ). I c.args.ticket.now.blob n) (sym c.version-version.ensures.version) order))
@@ -126,14 +124,14 @@ returns-in-Ok-finish-clause-published c =
     let k = finish_kept d.limits w.numbered b f.at.keeps even v (arc_value c.args.row) f.first (omega (arith, f.numbered, f.at.keeps.stands.counted)) f.own in
     let now : published (finish b v) ≡ c.in-Ok-finish.published = sym (published_is d.limits (with_finished w.numbered v (arc_value c.args.row)) (finish b v) k) ∙ sym c.in-Ok-finish.ensures.published in
     said here (λ s i n. (answer (store_of s.limits s.history) c.args.caller (Calls.Finish i n)).1 ≡ Outcomes.Published c.in-Ok-finish.published)
-    (finish_outcome d.limits d.page_size (arc_value d.houses) (map event_of d.history.items) d.windows.items c.self.invariant.kept c.blob-blob.result c.args.caller v f.at.found
-    (finishable_mark _ _ _ _ _ _ _ v w _ f ∙ c.in-Ok-finish.ensures.unfinished) ∙ ap (λ (n : ℕ). Outcomes.Published n) now)
+    (finish_outcome c.self.invariant.kept c.blob-blob.result c.args.caller v f.at.found
+    (finishable_mark _ _ v w _ f ∙ c.in-Ok-finish.ensures.unfinished) ∙ ap (λ (n : ℕ). Outcomes.Published n) now)
 
 pub returns-in-Ok-finish-clause-unfinished : goal.returns-in-Ok-finish-clause-unfinished
 returns-in-Ok-finish-clause-unfinished c =
     let here = (goal.at.returns-in-Ok-finish-clause-unfinished c).After-index-window in
     let w = c.index_mut.result.now in
-    marked here w c.index_mut.ensures.value false (finishable_mark _ _ _ _ _ _ _ c.version-version.result w _ (found here w c.index_mut.ensures.value) ∙ c.in-Ok-finish.ensures.unfinished)
+    marked here w c.index_mut.ensures.value false (finishable_mark _ _ c.version-version.result w _ (found here w c.index_mut.ensures.value) ∙ c.in-Ok-finish.ensures.unfinished)
 
 pub returns-in-Ok-finish-clause-finished : goal.returns-in-Ok-finish-clause-finished
 returns-in-Ok-finish-clause-finished c =
@@ -147,8 +145,8 @@ returns-in-Ok-finish-clause-finished c =
     let b : Blob = f.at.found.b in
     let even = subst (λ (x : WindowState WaitingUpdate). length x.numbered.rows ≡ length x.numbered.log) (g.at.whole ∙ sym f.at.whole) (sym c.stands.ensures.log) in
     let marks = even_of d.limits b w.numbered f.at.keeps even in
-    let there = finish_there d.limits d.page_size (arc_value d.houses) (map event_of d.history.items) d.windows.items c.self.invariant.kept blob c.args.caller v f.at.found
-    (finishable_mark _ _ _ _ _ _ _ v w _ f ∙ c.in-Ok-finish.ensures.unfinished) in
+    let there = finish_there c.self.invariant.kept blob c.args.caller v f.at.found
+    (finishable_mark _ _ v w _ f ∙ c.in-Ok-finish.ensures.unfinished) in
     let entry : Entry = record { caller = c.args.caller; change = Changes.Finish blob v } in
     let history = pushed_event d.history.items c.push_reserved.new.self.items entry (c.push_reserved.ensures.items ∙ ap (λ (l : List Entry). l ++ entry ∷ []) c.make_room.ensures.items) in
     said here (λ _ i n. finished_or_not (blob_at (store_of d.limits (map event_of c.push_reserved.new.self.items)) i) n ≡ true)
@@ -172,12 +170,11 @@ returns-in_default-make_room-clause-waits c =
 
 pub returns-in-Some-clause-refused : goal.returns-in-Some-clause-refused
 returns-in-Some-clause-refused c =
-    let d = c.self.inside in
     let v = c.version-version.result in
     let here = (goal.at.returns-in-Some-clause-refused c).After-index-window in
     let f = found here c.index-window.result.now c.index-window.ensures in
     said here (λ s i n. (answer (store_of s.limits s.history) c.args.caller (Calls.Finish i n)).1 ≡ Outcomes.Refused c.in-Some.refusal)
-    (finish_refused d.limits d.page_size (arc_value d.houses) (map event_of d.history.items) d.windows.items c.self.invariant.kept c.blob-blob.result c.args.caller v f.at.found c.in-Some.refusal
+    (finish_refused c.self.invariant.kept c.blob-blob.result c.args.caller v f.at.found c.in-Some.refusal
     (told here (Some c.in-Some.refusal) c.in-Some.ensures.refusal))
 
 pub returns-in-Ok-finish-clause-new : goal.returns-in-Ok-finish-clause-new
@@ -192,7 +189,7 @@ returns-in-Ok-finish-clause-new c =
     let f = found here w c.index_mut.ensures.value in
     let entry : Entry = record { caller = c.args.caller; change = Changes.Finish blob v } in
     let history = pushed_event d.history.items c.push_reserved.new.self.items entry (c.push_reserved.ensures.items ∙ ap (λ (l : List Entry). l ++ entry ∷ []) c.make_room.ensures.items) in
-    let old = this d.limits d.page_size (arc_value d.houses) (map event_of d.history.items) items c.self.invariant.kept blob (arc_value d.nodes) in
+    let old = this c.self.invariant.kept blob (arc_value d.nodes) in
     let desk : List Event → List Numbered → DeskState = λ l ws. record { limits = d.limits; page_size = d.page_size; houses = arc_value d.houses; nodes = arc_value d.nodes; history = l; windows = ws } in
     let after = map event_of c.push_reserved.new.self.items in
     let windows : numbered_of (set items (blob - 1) c.finish.new.self) ≡ windows_with old blob (with_finished (window_in old blob) v row) =

@@ -26,10 +26,10 @@ use Rattle.version_manager.proofs.desk.Desk.snapshot_of.Goals as goal
 
 -- the blob's window
 at : (c : After-index)
-    → IsAt c.self.inside.limits c.self.inside.page_size (arc_value c.self.inside.houses) (map event_of c.self.inside.history.items) c.self.inside.windows.items c.self.invariant.kept c.args.blob c.in-Some.index c.index.result.now
+    → IsAt c.self.invariant.kept c.args.blob c.in-Some.index c.index.result.now
 at c =
     let d = c.self.inside in
-    at_index d.limits d.page_size (arc_value d.houses) (map event_of d.history.items) d.windows.items c.self.invariant.kept c.args.blob c.in-Some.index _ c.index.result.now d.windows.ok.0 c.in-Some.ensures c.index.ensures
+    at_index c.self.invariant.kept c.args.blob c.in-Some.index _ c.index.result.now d.windows.ok.0 c.in-Some.ensures c.index.ensures
 
 pub returns-in-Some-clause-this : goal.returns-in-Some-clause-this
 returns-in-Some-clause-this c =
@@ -47,13 +47,11 @@ returns-in-Some-clause-size c = λ caller.
 
 pub returns-in-Some-clause-blob : goal.returns-in-Some-clause-blob
 returns-in-Some-clause-blob c =
-    let d = c.self.inside in
     let x = at (goal.at.returns-in-Some-clause-blob c).After-index in
     if_ok c.snapshot_in.result _ _ (λ (a : Version) e. ap (λ (v : Version). v.blob) e ∙ x.id) c.snapshot_in.ensures.this
 
 pub returns-in-Some-clause-page_size : goal.returns-in-Some-clause-page_size
 returns-in-Some-clause-page_size c =
-    let d = c.self.inside in
     let x = at (goal.at.returns-in-Some-clause-page_size c).After-index in
     if_ok c.snapshot_in.result _ _ (λ (a : Version) e. ap (λ (v : Version). v.page_size) e ∙ x.page ∙ ap (λ (v : DeskState). v.page_size) c.self.view_is) c.snapshot_in.ensures.this
 
@@ -82,7 +80,7 @@ returns-in-Some-clause-here c =
     let houses = arc_value d.houses in
     let w = c.index.result.now in
     let x = at (goal.at.returns-in-Some-clause-here c).After-index in
-    let lies = lies_at d.limits d.page_size houses nodes (map event_of d.history.items) d.windows.items c.self.invariant c.args.blob c.in-Some.index w x in
+    let lies = lies_at c.self.invariant c.args.blob c.in-Some.index w x in
     let P : DeskState → Type 0 = λ s. IfOk c.snapshot_in.result (λ (a : Version). IsVersionIn s.nodes s.houses a) in
     subst P c.self.view_is (if_ok c.snapshot_in.result _ _ (λ (a : Version) e. subst (λ (v : Version). IsVersionIn nodes houses v) (sym e) (older_in nodes houses w.numbered c.args.version lies)) c.snapshot_in.ensures.this)
 
@@ -93,7 +91,7 @@ returns-in-Some-clause-origins c =
     let blob = c.args.blob in
     let w = c.index.result.now in
     let x = at (goal.at.returns-in-Some-clause-origins c).After-index in
-    let under = under_at d.limits d.page_size (arc_value d.houses) (arc_value d.nodes) h d.windows.items c.self.invariant blob c.in-Some.index w x in
+    let under = under_at c.self.invariant blob c.in-Some.index w x in
     let P : DeskState → Type 0 = λ s. IfOk c.snapshot_in.result (λ (a : Version). LieUnderOrigins s.history blob a.rows) in
     subst P c.self.view_is (if_ok c.snapshot_in.result _ _ (λ (a : Version) e. subst (λ (v : Version). LieUnderOrigins h blob v.rows) (sym e) (older_under h blob c.args.version w.numbered under)) c.snapshot_in.ensures.this)
 
@@ -101,6 +99,6 @@ pub returns-in-None-clause-not_opened : goal.returns-in-None-clause-not_opened
 returns-in-None-clause-not_opened c = λ caller.
     let d = c.self.inside in
     let h = map event_of d.history.items in
-    let none = absent d.limits d.page_size (arc_value d.houses) h d.windows.items c.self.invariant.kept c.args.blob (λ some. omega (arith, d.windows.ok.0, c.in-None.ensures some)) in
+    let none = absent c.self.invariant.kept c.args.blob (λ some. omega (arith, d.windows.ok.0, c.in-None.ensures some)) in
     let P : DeskState → Type 0 = λ v. (answer (store_of v.limits v.history) caller (Calls.Size c.args.blob c.args.version)).1 ≡ Outcomes.Refused (Refusals.NoBlob c.args.blob) in
     subst P c.self.view_is (look_none (Looks.Size c.args.version) (store_of d.limits h) caller c.args.blob none)

@@ -28,10 +28,10 @@ refusal_of o blob version = elim o [ None ↦ Some (Refusals.NoBlob blob) | Some
 
 -- the blob's window
 at : (c : After-index-window)
-    → IsAt c.self.inside.limits c.self.inside.page_size (arc_value c.self.inside.houses) (map event_of c.self.inside.history.items) c.self.inside.windows.items c.self.invariant.kept c.args.blob c.in-Some.index c.index-window.result.now
+    → IsAt c.self.invariant.kept c.args.blob c.in-Some.index c.index-window.result.now
 at c =
     let d = c.self.inside in
-    at_index d.limits d.page_size (arc_value d.houses) (map event_of d.history.items) d.windows.items c.self.invariant.kept c.args.blob c.in-Some.index _ c.index-window.result.now d.windows.ok.0 c.in-Some.ensures c.index-window.ensures
+    at_index c.self.invariant.kept c.args.blob c.in-Some.index _ c.index-window.result.now d.windows.ok.0 c.in-Some.ensures c.index-window.ensures
 
 -- what the store says of the version there
 told : (c : After-index-window) (o : Option Refusal) → o ≡ first_refusal (not_numbered (at c).found.b c.args.version ∷ already (at c).found.b c.args.version ∷ []) → ticket_refusal c.args.self.now c.args.blob c.args.version ≡ o
@@ -107,8 +107,8 @@ returns-in-Ok-clause-hints c =
     let x = at (goal.at.returns-in-Ok-clause-hints c).After-index-window in
     let t = c.in-Ok.ticket in
     let done = c.in-Ok.ensures in
-    let lies = lies_at d.limits d.page_size (arc_value d.houses) (arc_value d.nodes) h d.windows.items c.self.invariant c.args.blob c.in-Some.index w x in
-    let under = under_at d.limits d.page_size (arc_value d.houses) (arc_value d.nodes) h d.windows.items c.self.invariant c.args.blob c.in-Some.index w x in
+    let lies = lies_at c.self.invariant c.args.blob c.in-Some.index w x in
+    let under = under_at c.self.invariant c.args.blob c.in-Some.index w x in
     let waiting = done.waiting ∙ ap (λ (v : ℕ). take (v - published_of w.numbered - 1) (waiting_of w.numbered)) (sym done.version) in
     let P : DeskState → Type 0 = λ s. HasHintsBelow s c.args.blob t in
     subst P c.self.view_is (has_hints_below _ c.args.blob t x.found.b w.numbered d.limits x.found.at x.id x.page x.keeps (sym c.stands.ensures.log) (subst (λ (v : Version). IsVersion v) done.snapshot done.published)
