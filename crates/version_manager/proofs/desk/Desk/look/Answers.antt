@@ -3,7 +3,6 @@ use Rattle.blob_model.specs.History.{store_of}
 use Rattle.blob_model.specs.declared.call.Outcome.TheVariants as Outcomes
 use Rattle.blob_model.specs.declared.call.Refusal.TheVariants as Refusals
 use Rattle.version_manager.specs.Desks.{DeskState, outcome_now}
-use Rattle.std.specs.Arc.{arc_value}
 use Rattle.version_manager.specs.Entries.{event_of}
 use Rattle.version_manager.specs.Looks.{look_call}
 use Rattle.version_manager.proofs.Desks.{absent, at_index}

@@ -1,12 +1,10 @@
-use Rattle.std.proofs.Common.{◌≡◌, map, sym, ◌∙◌, ap, subst, arith}
+use Rattle.std.proofs.Common.{◌≡◌, sym, ◌∙◌, ap, subst, arith}
 use Rattle.blob_model.specs.History.{store_of}
 use Rattle.blob_model.specs.Answer.{answer}
 use Rattle.blob_model.specs.declared.call.Call.TheVariants as Calls
 use Rattle.blob_model.specs.declared.call.Refusal.TheVariants as Refusals
 use Rattle.std.specs.Prelude.{Some}
 use Rattle.version_manager.specs.Desks.{DeskState, refusal_in}
-use Rattle.std.specs.Arc.{arc_value}
-use Rattle.version_manager.specs.Entries.{event_of}
 use Rattle.version_manager.proofs.Desks.{at_index}
 use Rattle.version_manager.proofs.Numbering.{assign_told, assign_absent}
 use Rattle.version_manager.proofs.desk.Desk.refusal_of.Goals as goal
