@@ -1,5 +1,5 @@
 // The numbered updates of one blob.
-ghost use Rattle.std.specs.Prelude.{◌≡◌, ◌+◌, ◌-◌, ◌<◌, ◌≤◌, ◌↔◌, true, false, Some, [], ◌∷◌, ◌++◌, length, drop, slice_get, IfOk, IfErr, OnOk, OnErr};
+ghost use Rattle.std.specs.Prelude.{◌≡◌, ◌+◌, ◌-◌, ◌<◌, ◌≤◌, ◌↔◌, true, false, Some, [], ◌∷◌, ◌++◌, length, drop, slice_get, IfOk, IfErr};
 ghost use Rattle.std.specs.Arc.{arc_value};
 ghost use Rattle.snapshot.specs.Versions.{older_version, IsVersion};
 
@@ -13,6 +13,9 @@ use std::marker::Model;
 use std::sync::Arc;
 use thiserror::Error;
 use tree_geom::Touch;
+
+/// How many updates may wait.
+const PLACES: usize = 64;
 
 /// Why an update wasn't finished.
 #[derive(Clone, Copy, Debug, PartialEq, Eq, Error)]
@@ -33,12 +36,12 @@ pub struct Window<U> {
     snapshot: Snapshot,
     // what the waiting updates touch: apart from their slots, as each ticket takes a copy of just these
     waiting: OpenList,
-    // the slot of each of them, by version; the room that was taken once stays
+    // the slot of each of them, by version
     slots: Vec<Slot<U>>,
 }
 
 impl<U> Model for Window<U> {
-    ghost use Rattle.std.specs.Prelude.{map};
+    ghost use Rattle.std.specs.Prelude.{◌≤◌, map, vec_capacity};
     ghost use Rattle.publisher.specs.Windows.{WindowState};
 
     ghost Value = { WindowState U };
@@ -47,15 +50,14 @@ impl<U> Model for Window<U> {
 
     ghost view = { λ w. record { numbered = over w.snapshot w.waiting (map row_in w.slots.items); updates = map update_in w.slots.items } };
 
-    ghost invariant = { λ w. KeepsWindow w.snapshot w.waiting (map row_in w.slots.items) };
+    ghost invariant = { λ w. KeepsWindow w.snapshot w.waiting (map row_in w.slots.items) × (64 ≤ vec_capacity w.slots) };
 }
 
 impl<U: Drop> Window<U> {
     ghost use Rattle.publisher.specs.Windows.{published_of, is_finished, version_of, waiting_of, window_on, with_numbered, with_finished, IsRowIn};
     ghost use Rattle.publisher.specs.declared.window.FinishFault.TheVariants.{Already};
 
-    /// The window over a published version, above which nothing is numbered. The room for what 64 waiting updates touch is made
-    /// here, and none for their slots.
+    /// The window over a published version, above which nothing is numbered. The room for 64 waiting updates is made here.
     pub fn new(alloc: Global, base: Snapshot) -> Result<Window<U>, NoMemory>
         ensures numbered { IfOk result (λ window. window.numbered ≡ window_on base) }
         ensures updates { IfOk result (λ window. window.updates ≡ []) }
@@ -65,24 +67,23 @@ impl<U: Drop> Window<U> {
         Ok(Window {
             snapshot: base,
             waiting,
-            slots: Vec::new(alloc),
+            slots: Vec::with_capacity(alloc, PLACES)?,
         })
     }
 
     /// Numbers the next update, and gives its version. Fewer than 64 updates wait, and fewer than 1,048,576 are numbered. It
-    /// takes memory where more wait than ever before; where that is refused, nothing has changed.
-    pub fn number(&mut self, touch: Touch, update: U) -> Result<u64, NoMemory>
+    /// takes no memory.
+    pub fn number(&mut self, touch: Touch, update: U) -> u64
         requires few { length self.old.numbered.log < published_of self.old.numbered + 64 }
         requires room { length self.old.numbered.log < 1048576 }
-        ensures version { IfOk result (λ version. version ≡ length self.old.numbered.log + 1) }
-        ensures numbered { OnOk result (self.new.numbered ≡ with_numbered self.old.numbered touch) }
-        ensures updates { OnOk result (self.new.updates ≡ self.old.updates ++ update ∷ []) }
-        ensures same { OnErr result (self.new ≡ self.old) }
+        ensures version { result ≡ length self.old.numbered.log + 1 }
+        ensures numbered { self.new.numbered ≡ with_numbered self.old.numbered touch }
+        ensures updates { self.new.updates ≡ self.old.updates ++ update ∷ [] }
     {
         let version = self.assigned() + 1;
-        self.slots.push(Slot { update, row: None })?;
         self.waiting.add(OpenTouch { version, touch });
-        Ok(version)
+        self.slots.push_reserved(Slot { update, row: None });
+        version
     }
 
     /// Finishes a numbered version by its row, and gives the version that is published now: the greatest one up to which

@@ -20,9 +20,9 @@ returns g c =
     let items = w.slots.items in
     let version = c.args.version in
     let slot = version - c.version-published.result - 1 in
-    let n = counts w.snapshot w.waiting (map row_in items) c.args.self.now.numbered (told c.self.view_is) c.self.invariant in
+    let n = counts w.snapshot w.waiting (map row_in items) c.args.self.now.numbered (told c.self.view_is) c.self.invariant.0 in
     let is : version ≡ length w.snapshot.rows + slot + 1 = omega (arith, c.version-published.ensures.count, c.if-version-published.false) in
-    let within : slot < length items = omega (arith, is, n.assigned, c.requires.1, c.self.invariant.paired, length-map items row_in) in
+    let within : slot < length items = omega (arith, is, n.assigned, c.requires.1, c.self.invariant.0.paired, length-map items row_in) in
     let F : Numbered → Type 0 = λ x. c.is_some.result ≡ is_finished x version in
     let at = c.index.result.now in
     subst F (told c.self.view_is)

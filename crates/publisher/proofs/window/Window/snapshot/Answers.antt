@@ -7,4 +7,4 @@ use Rattle.publisher.proofs.window.Window.snapshot.Goals as goal
 pub returns : goal.returns
 returns g c =
     let w = c.self.inside in
-    version_is w.snapshot w.waiting (map row_in w.slots.items) c.self.invariant.least ∙ ap version_of (told c.self.view_is)
+    version_is w.snapshot w.waiting (map row_in w.slots.items) c.self.invariant.0.least ∙ ap version_of (told c.self.view_is)

@@ -15,6 +15,6 @@ pub returns-clause-waits : goal.returns-clause-waits
 returns-clause-waits g c =
     let w = c.self.inside in
     let items = w.slots.items in
-    let n = counts w.snapshot w.waiting (map row_in items) c.args.self.now.numbered (told c.self.view_is) c.self.invariant in
+    let n = counts w.snapshot w.waiting (map row_in items) c.args.self.now.numbered (told c.self.view_is) c.self.invariant.0 in
     let given = ap (λ (x : WindowState g.row.U.Denot). length x.updates) c.self.view_is in
-    omega (arith, n.published, n.assigned, given, length-map items update_in, length-map items row_in, c.self.invariant.paired)
+    omega (arith, n.published, n.assigned, given, length-map items update_in, length-map items row_in, c.self.invariant.0.paired)

@@ -7,4 +7,4 @@ use Rattle.publisher.proofs.window.Window.waiting.Goals as goal
 pub returns : goal.returns
 returns g c =
     let w = c.self.inside in
-    waiting_is w.snapshot w.waiting (map row_in w.slots.items) c.self.invariant ∙ ap waiting_of (told c.self.view_is)
+    waiting_is w.snapshot w.waiting (map row_in w.slots.items) c.self.invariant.0 ∙ ap waiting_of (told c.self.view_is)
