@@ -205,10 +205,7 @@ impl Blob {
         let touch = touched(p, at, len, size.max(at + len));
         self.touches.push_reserved(touch);
         self.begun.push_reserved(Begun { at, pages });
-        let Ok(version) = self.window.number(touch, ()) else {
-            panic!(rt; "memory");
-        };
-        version
+        self.window.number(touch, ())
     }
 
     /// Numbers the update of these bytes at byte `at`, and gives its version.

@@ -221,9 +221,7 @@ impl Desk {
             at: ticket.at(),
             pages: kept,
         };
-        let Ok(_version) = self.windows[index].number(ticket.touch(), update) else {
-            return Err(DeskFault::NoMemory);
-        };
+        self.windows[index].number(ticket.touch(), update);
         self.history.push_reserved(Entry {
             caller,
             change: Change::Assign { blob, place, pages },

@@ -20,4 +20,4 @@ invariant_of-self g c =
     (ap (λ (x : Cut). x.page_size) same ∙ c.requires.page_size ∙ own) (c.len-len.ensures ∙ ap (λ (x : Cut). length (bytes_of_pages x.pages)) (sym same)) (omega (arith, c.requires.some, c.len-len.ensures)) (omega (arith, size))
     (c.touched-touch.ensures.size ∙ c.max.ensures ∙ ap (λ n. max n (c.args.at + c.len-len.result)) size) (omega (arith, c.touched-touch.ensures.size, c.max.ensures))
     (c.touched-touch.ensures.is ∙ ap (λ p. touched_by p c.args.at c.len-len.result c.max.result) (c.page_size-p.ensures ∙ ap (λ (v : Version). v.page_size) c.snapshot.ensures) ∙ ap (touched_by c.self.inside.window.numbered.page_size c.args.at c.len-len.result) (sym c.touched-touch.ensures.size))
-    c.in-Ok.ensures.numbered (c.push_reserved.ensures.items ∙ ap (λ l. l ++ c.touched-touch.result ∷ []) c.reserve.ensures.items) (c.push_reserved-2.ensures.items ∙ ap (λ (l : List Start). l ++ s ∷ []) c.reserve-2.ensures.items)
+    c.number.ensures.numbered (c.push_reserved.ensures.items ∙ ap (λ l. l ++ c.touched-touch.result ∷ []) c.reserve.ensures.items) (c.push_reserved-2.ensures.items ∙ ap (λ (l : List Start). l ++ s ∷ []) c.reserve-2.ensures.items)

@@ -1,7 +1,7 @@
 use Rattle.std.proofs.Common.{◌≡◌, ℕ, ◌+◌, ◌-◌, ◌<◌, false, List, [], ◌∷◌, ◌++◌, length, map, set, get_or, suc, refl, sym, ◌∙◌, ap, subst}
 use Rattle.std.specs.Prelude.{Some, None}
 use Rattle.std.specs.Arc.{arc_value}
-use Rattle.std.proofs.lemmas.List.{map-set, set-get_or}
+use Rattle.std.proofs.lemmas.List.{map-set}
 use Rattle.page_store.specs.Stored.{Cut, bytes_of_pages, LieAmong}
 use Rattle.snapshot.specs.Versions.{Version, IsVersion}
 use Rattle.blob_model.specs.Content.{Update, offset_of}
@@ -16,7 +16,7 @@ use Rattle.border_hints.specs.Numbered.{own_touch}
 use Rattle.publisher.specs.Windows.{Numbered, WindowState, published_of, version_of, waiting_of, with_numbered}
 use Rattle.version_manager.specs.Desks.{DeskState, OnRefused, no_window, outcome_now, updates_or_none, IsNumbering, HasHints, with_event, windows_with, window_in}
 use Rattle.version_manager.specs.Entries.{event_of}
-use Rattle.version_manager.specs.DeskInvariant.{Keeps, IsWaitingUpdate, AreWaiting, IsDesk, update_tests, seen_in, numbered_of}
+use Rattle.version_manager.specs.DeskInvariant.{Keeps, IsWaitingUpdate, AreWaiting, update_tests, seen_in, numbered_of}
 use Rattle.version_manager.specs.Origins.{parents_of, AreUnder}
 use Rattle.version_manager.specs.declared.entry.Change.TheVariants as Changes
 use Rattle.version_manager.specs.declared.entry.Entry.{Entry}
@@ -83,31 +83,6 @@ returns-in_default-make_room-clause-memory c =
     let x = at here c.index-window.result.now c.index-window.ensures in
     accepted here (c.in-Ok.ensures.accepted x.found.b x.keeps)
 
-pub returns-in_default-number-clause-memory : goal.returns-in_default-number-clause-memory
-returns-in_default-number-clause-memory c =
-    let here = (goal.at.returns-in_default-number-clause-memory c).After-index-window in
-    let x = at here c.index-window.result.now c.index-window.ensures in
-    accepted here (c.in-Ok.ensures.accepted x.found.b x.keeps)
-
--- a window that is put back as it was
-back : (items : List (WindowState WaitingUpdate)) (i : ℕ) (w w' : WindowState WaitingUpdate) → w ≡ get_or items i w → w' ≡ w → set items i w' ≡ items
-back items i w w' read same = ap (set items i) (same ∙ read) ∙ set-get_or items i w
-
-pub invariant_of-self-in_default-number : goal.invariant_of-self-in_default-number
-invariant_of-self-in_default-number c =
-    let d = c.self.inside in
-    let D : List Entry → List (WindowState WaitingUpdate) → Type 0 = λ es l. IsDesk d.limits d.page_size (arc_value d.houses) (arc_value d.nodes) (map event_of es) l in
-    let kept : D c.make_room.new.history.items d.windows.items = subst (λ (es : List Entry). D es d.windows.items) (sym c.make_room.ensures.items) c.self.invariant in
-    subst (D c.make_room.new.history.items) (sym (back d.windows.items c.in-Some.index c.index_mut.result.now c.number.new.self c.index_mut.ensures.value c.in_default-number.ensures.same)) kept
-
-pub returns-in_default-number-clause-same : goal.returns-in_default-number-clause-same
-returns-in_default-number-clause-same c =
-    let d = c.self.inside in
-    let desk : List Entry → List (WindowState WaitingUpdate) → DeskState = λ es l. record { limits = d.limits; page_size = d.page_size; houses = arc_value d.houses; nodes = arc_value d.nodes; history = map event_of es; windows = numbered_of l } in
-    ap (desk c.make_room.new.history.items) (back d.windows.items c.in-Some.index c.index_mut.result.now c.number.new.self c.index_mut.ensures.value c.in_default-number.ensures.same)
-    ∙ ap (λ (es : List Entry). desk es d.windows.items) c.make_room.ensures.items
-    ∙ c.self.view_is
-
 pub number-requires-clause-few : goal.number-requires-clause-few
 number-requires-clause-few c =
     let here = (goal.at.number-requires-clause-few c).After-index-window in
@@ -137,7 +112,7 @@ invariant_of-self-2 c =
     let b : Blob = x.found.b in
     let after = c.number.new.self in
     let touch = own_touch c.in-Ok.ticket in
-    let is : after.numbered ≡ with_numbered w.numbered touch = c.in-Ok-number.ensures.numbered ∙ ap (with_numbered w.numbered) c.touch.ensures in
+    let is : after.numbered ≡ with_numbered w.numbered touch = c.number.ensures.numbered ∙ ap (with_numbered w.numbered) c.touch.ensures in
     let seen : after.numbered ≡ with_numbered c.index-window.result.now.numbered touch = is ∙ ap (λ (v : Numbered). with_numbered v touch) (y.window ∙ sym x.window) in
     let count = subst (λ (v : WindowState WaitingUpdate). published_of v.numbered + length v.updates ≡ length v.numbered.log) (x.whole ∙ sym y.whole) c.stands.ensures.waits in
     let update : WaitingUpdate = record { caller = c.args.caller; at = c.at.result; pages = c.in-Ok-shared_twice.kept } in
@@ -146,7 +121,7 @@ invariant_of-self-2 c =
     let last = numbered_own d.page_size houses b.updates u update q refl (c.at.ensures ∙ c.in-Ok.ensures.at b x.keeps) c.in-Ok-shared_twice.ensures.1 refl page lie in
     let own = subst (λ (n : ℕ). IsWaitingUpdate d.page_size houses (b.updates ++ u ∷ []) (suc n) update) (x.keeps.stands.counted ∙ ap (λ (v : Numbered). length v.log) (x.window ∙ sym y.window)) last in
     let waits = numbered_wait d.page_size houses (b.updates ++ u ∷ []) w after touch update (list_stays d.page_size houses b.updates (u ∷ []) w
-    (subst (AreWaiting d.page_size houses b.updates) (x.whole ∙ sym y.whole) x.waits)) count own is c.in-Ok-number.ensures.updates in
+    (subst (AreWaiting d.page_size houses b.updates) (x.whole ∙ sym y.whole) x.waits)) count own is c.number.ensures.updates in
     let keeps = assign_keeps c.self.invariant.kept c.args.caller blob c.args.place bytes x.found (c.in-Ok.ensures.accepted b x.keeps) c.requires.some x.some after
     (subst (λ (v : Numbered). Keeps d.limits v (and_update b u)) (sym seen) (c.in-Ok.ensures.kept b u x.keeps refl refl)) waits (ap (λ (v : Numbered). v.blob) is ∙ y.id) (ap (λ (v : Numbered). v.page_size) is ∙ y.page) in
     let entry : Entry = record { caller = c.args.caller; change = Changes.Assign blob c.args.place c.in-Ok-shared_twice.pages } in
@@ -239,7 +214,7 @@ returns-clause-new c =
     let history = numbered_event d.history.items c.make_room.new.history.items c.push_reserved.new.self.items c.args.caller blob c.args.place c.in-Ok-shared_twice.pages _ c.make_room.ensures.items c.push_reserved.ensures.items
     c.in-Ok-shared_twice.ensures.0 in
     let is : after.numbered ≡ with_numbered (get_or (numbered_of items) (blob - 1) no_window) touch =
-    c.in-Ok-number.ensures.numbered ∙ ap (with_numbered w.numbered) c.touch.ensures ∙ ap (λ (v : Numbered). with_numbered v touch) y.window in
+    c.number.ensures.numbered ∙ ap (with_numbered w.numbered) c.touch.ensures ∙ ap (λ (v : Numbered). with_numbered v touch) y.window in
     let windows = map-set seen_in items c.in-Some.index after ∙ ap (λ (i : ℕ). set (numbered_of items) i after.numbered) y.at ∙ ap (set (numbered_of items) (blob - 1)) is in
     let P : DeskState → Type 0 = λ s. desk (map event_of c.push_reserved.new.self.items) (numbered_of (set items c.in-Some.index after)) ≡ with_event s e (windows_with s blob (with_numbered (window_in s blob) touch)) in
     subst P c.self.view_is (ap (λ (l : List Event). desk l (numbered_of (set items c.in-Some.index after))) history ∙ ap (desk (map event_of d.history.items ++ e ∷ [])) windows)
