@@ -6,7 +6,6 @@ use Rattle.items.specs.Items.{ItemStream}
 use Rattle.file_names.specs.Paths.{is_path}
 use Rattle.items.specs.Lines.{Lining, IsLining, lined}
 use Rattle.script_text.specs.Fields.{number_of, bytes_of}
-use Rattle.script_text.specs.Requests.{both}
 use Rattle.script_text.specs.Lines.{max_line, fields_of}
 use Rattle.file_text.specs.declared.command.FileCommand.{FileCommand}
 use Rattle.file_text.specs.declared.command.FileCommand.TheVariants as Commands
@@ -27,6 +26,12 @@ abbrev pub only : {A : Type 0} → (List ℕ → Option A) → List (List ℕ) �
 only read [] = None
 only read (field ∷ []) = read field
 only read (field ∷ next ∷ fields) = None
+
+-- both of two things, or neither
+abbrev pub both : {A B : Type 0} → Option A → Option B → Option (A × B)
+both (Some a) (Some b) = Some (a, b)
+both (Some a) None = None
+both None b = None
 
 -- a field, and what those behind it are
 abbrev pub first_and : {A B : Type 0} → (List ℕ → Option A) → (List (List ℕ) → Option B) → List (List ℕ) → Option (A × B)

@@ -1,19 +1,19 @@
 -- Pairs of numbers as fields, and what they ask for.
-use Rattle.std.proofs.Common.{◌≡◌, ◌≢◌, ◌∙◌, ℕ, zero, suc, ◌+◌, ◌-◌, ◌*◌, ◌/◌, ◌%◌, ◌^◌, ◌<◌, ◌≤◌, ◌==◌, nat_le, true, false, List, [], ◌∷◌, ◌++◌, length, drop, Option, Some, refl, sym, ap, subst, arith, append_assoc, append-nil, length-append}
+use Rattle.std.proofs.Common.{◌≡◌, ◌∙◌, ℕ, zero, suc, ◌+◌, ◌-◌, ◌*◌, ◌/◌, ◌%◌, ◌^◌, ◌<◌, ◌≤◌, ◌==◌, ◌&&◌, nat_le, Bool, cond, not, true, false, true≢false, List, [], ◌∷◌, ◌++◌, length, drop, Option, Some, None, refl, sym, ap, subst, arith, append_assoc, append-nil, length-append}
 use Rattle.std.specs.List.{All}
 use Rattle.std.proofs.lemmas.List.{drop_at}
-use Rattle.std.proofs.lemmas.List.Elements.{All-nil, All-cons, All-head, All-tail}
+use Rattle.std.proofs.lemmas.List.Elements.{All-head, All-tail}
 use Rattle.std.proofs.lemmas.Bool.{and_parts}
 use Rattle.std.proofs.lemmas.Bool.Decides.{nat_tests}
 use Rattle.byteorder.specs.Endian.{big_number}
-use Rattle.request_form.specs.declared.form.Request.TheVariants as Requests
-use Rattle.frame_wire.specs.Requests.{number_at, pairs_of, holds_ranges, request_of, second_request_of}
-use Rattle.frame_wire.specs.Operations.{pairs_fit}
+use Rattle.request_form.specs.declared.form.Request.TheVariants.{ReadMany}
+use Rattle.request_form.specs.declared.operation.Operation.{Operation}
+use Rattle.request_form.specs.Operations.{number_of, since_of, numbers_of, has_bytes, has_ranges, is_since, IsSince, request_with}
+use Rattle.request_form.proofs.Rows.{each, off, since_from, since_test}
+use Rattle.frame_wire.specs.Requests.{number_at, numbers_in, pairs_of, holds_ranges, fits_by, fits, made, request_of}
 use Rattle.frame_wire.specs.Said.{field, pair_fields}
-use Rattle.frame_wire.specs.Decoded.{IsSmallPair, IsPaired}
-use Rattle.frame_wire.specs.declared.pairs.Paired.{Paired}
-use Rattle.frame_wire.specs.declared.pairs.Paired.TheVariants as Paireds
-use Rattle.frame_wire.proofs.RequestLemmas.{field-length, field-number}
+use Rattle.frame_wire.specs.Decoded.{IsSmallPair, IsSecond, pairs_fit, IsPaired}
+use Rattle.frame_wire.proofs.RequestLemmas.{field-length, field-number, known, not_true}
 
 pub pair_fields-length : (ps : List (ℕ × ℕ)) → length (pair_fields ps) ≡ 16 * length ps
 pair_fields-length [] = refl
@@ -61,32 +61,7 @@ pairs_back (p ∷ ps) (suc count) e small =
     let fits = small_first p ps small in
     rw (first_at p (pair_fields ps) fits.0, second_at p (pair_fields ps) fits.1, behind_pair p (pair_fields ps)) (ap (λ (l : List (ℕ × ℕ)). p ∷ l) (pairs_back ps count (omega arith) (small_others p ps small)))
 
--- ---- the two operations
-
-ranges_ask : (target : ℕ × ℕ) (ranges : List (ℕ × ℕ)) → holds_ranges (16 * length (target ∷ ranges)) ≡ true → AllSmallPairs (target ∷ ranges)
-    → second_request_of (15 ∷ pair_fields (target ∷ ranges)) ≡ Some (Requests.ReadMany target.0 target.1 ranges)
-ranges_ask target ranges fit small =
-    let l = pair_fields-length (target ∷ ranges) in
-    let test : holds_ranges (length (pair_fields (target ∷ ranges))) ≡ true = ap holds_ranges l ∙ fit in
-    let fits = small_first target ranges small in
-    let count : length (pair_fields (target ∷ ranges)) / 16 - 1 ≡ length ranges = omega arith in
-    rw (
-      test,
-      count,
-      first_at target (pair_fields ranges) fits.0,
-      second_at target (pair_fields ranges) fits.1,
-      behind_pair target (pair_fields ranges),
-      pairs_back ranges (length ranges) refl (small_others target ranges small),
-    ) refl
-
-repair_asks : (target : ℕ × ℕ) → AllSmallPairs (target ∷ []) → second_request_of (16 ∷ pair_fields (target ∷ [])) ≡ Some (Requests.Repair target.0 target.1)
-repair_asks target small =
-    let fits = small_first target [] small in
-    let l = pair_fields-length (target ∷ []) in
-    let test : (length (pair_fields (target ∷ [])) == 16) ≡ true = grind (arith, nat_tests, l) in
-    rw (test, first_at target [] fits.0, second_at target [] fits.1) refl
-
--- ---- what was decoded, once nothing more is to come
+-- ---- so many bytes
 
 is_equal : (n m : ℕ) → (n == m) ≡ true → n ≡ m
 is_equal n m h = grind (arith, nat_tests, h)
@@ -94,59 +69,100 @@ is_equal n m h = grind (arith, nat_tests, h)
 is_at_most : (n m : ℕ) → nat_le n m ≡ true → n ≤ m
 is_at_most n m h = grind (arith, nat_tests, h)
 
--- so many bytes are whole pairs, and at least one
-pub fit_pairs : (operation : Paired) (count : ℕ) → pairs_fit operation count ≡ true → (count % 16 ≡ 0) × (16 ≤ count)
-fit_pairs Paireds.ReadMany count h =
-    let whole = and_parts (count % 16 == 0) _ h in
-    let range = and_parts (nat_le 32 count) _ whole.1 in
-    let some_range = is_at_most 32 count range.0 in
-    (is_equal (count % 16) 0 whole.0, omega arith)
-fit_pairs Paireds.Repair count h = let same = is_equal count 16 h in (omega arith, omega arith)
+range_bounds : (count : ℕ) → holds_ranges count ≡ true → (count % 16 ≡ 0) × (32 ≤ count) × (count ≤ 1040)
+range_bounds count h =
+    let whole = and_parts (count % 16 == 0) (nat_le 32 count && nat_le count 1040) h in
+    let range = and_parts (nat_le 32 count) (nat_le count 1040) whole.1 in
+    (is_equal (count % 16) 0 whole.0, is_at_most 32 count range.0, is_at_most count 1040 range.1)
+
+-- they are whole pairs, and at least one
+pub fit_pairs : (ranges : Bool) (count : ℕ) → pairs_fit ranges count ≡ true → (count % 16 ≡ 0) × (16 ≤ count)
+fit_pairs true count h = let bounds = range_bounds count h in (bounds.0, omega (arith, bounds.1))
+fit_pairs false count h = let same = is_equal count 16 h in (omega arith, omega arith)
+
+-- and fit an operation of two numbers without bytes
+pairs_by : (bytes ranges : Bool) (k n : ℕ) → bytes ≡ false → k ≡ 2 → fits_by bytes ranges k n ≡ pairs_fit ranges n
+pairs_by true ranges k n none two = absurd (true≢false none)
+pairs_by false true k n none two = refl
+pairs_by false false k n none two = ap (λ (m : ℕ). n == 8 * m) two
+
+second_fits : (operation : Operation) (n : ℕ) → IsSecond operation → fits operation n ≡ pairs_fit (has_ranges operation) n
+second_fits operation n second = pairs_by (has_bytes operation) (has_ranges operation) (numbers_of operation) n second.no_bytes second.numbers
+
+-- ---- the operations since version 2
+
+-- what frames have since version 2, and not before, is one of them
+second_test : (later first : Bool) (is : Bool) → cond later (cond first true is) true ≡ true → later ≡ true → first ≡ false → is ≡ true
+second_test true true is h e f = absurd (true≢false f)
+second_test true false is h e f = h
+second_test false first is h e f = absurd (true≢false (sym e))
+
+pub second_is : (operation : Operation) → IsSince (since_of operation) 2 → (IsSince (since_of operation) 1 → ⊥) → IsSecond operation
+second_is operation later first =
+    let all = each (λ o. cond (is_since (since_of o) 2) (cond (is_since (since_of o) 1) true (numbers_of o == 2 && not (has_bytes o))) true) refl operation in
+    let is = second_test (is_since (since_of operation) 2) (is_since (since_of operation) 1) (numbers_of operation == 2 && not (has_bytes operation)) all
+    (since_test (since_of operation) 2 later) (off (is_since (since_of operation) 1) (λ e. first (since_from (since_of operation) 1 e))) in
+    let parts = and_parts (numbers_of operation == 2) (not (has_bytes operation)) is in
+    record { since = later; numbers = is_equal (numbers_of operation) 2 parts.0; no_bytes = not_true (has_bytes operation) parts.1 }
+
+-- ---- what was decoded, once nothing more is to come
 
 no_bytes : (l : List ℕ) → length l ≡ 0 → l ≡ []
 no_bytes [] h = refl
 no_bytes (b ∷ bs) h = absurd (omega arith)
 
-pub whole_pairs : (operation : Paired) (target : Option (ℕ × ℕ)) (ranges : List (ℕ × ℕ)) (part : List ℕ) (left : ℕ) → IsPaired operation target ranges part left → left ≡ 0 → part ≡ []
-whole_pairs operation target ranges part left d none =
-    let fit = fit_pairs operation _ d.fits in
-    let few = d.part_fits in
-    no_bytes part (omega (arith, fit.0))
+no_pairs : (l : List (ℕ × ℕ)) → length l ≡ 0 → l ≡ []
+no_pairs [] h = refl
+no_pairs (p ∷ ps) h = absurd (omega arith)
 
-module _ (target : ℕ × ℕ) (ranges : List (ℕ × ℕ)) (part : List ℕ) (left : ℕ) (none : left ≡ 0) where
-  pub ranges_asked : IsPaired Paireds.ReadMany (Some target) ranges part left
-      → second_request_of (15 ∷ (pair_fields (target ∷ ranges) ++ part)) ≡ Some (Requests.ReadMany target.0 target.1 ranges)
-  ranges_asked d =
-      let no_part = whole_pairs Paireds.ReadMany (Some target) ranges part left d none in
-      let empty : length part ≡ 0 = ap (λ (l : List ℕ). length l) no_part in
-      let count : 16 * length (target ∷ ranges) + length part + left ≡ 16 * length (target ∷ ranges) = omega arith in
-      ap (λ (l : List ℕ). second_request_of (15 ∷ l)) (ap (λ (l : List ℕ). pair_fields (target ∷ ranges) ++ l) no_part ∙ append-nil (pair_fields (target ∷ ranges)))
-      ∙ ranges_ask target ranges (ap holds_ranges (sym count) ∙ d.fits) d.numbers_fit
+module _ (operation : Operation) (target : Option (ℕ × ℕ)) (ranges : List (ℕ × ℕ)) (part : List ℕ) (left : ℕ) (none : left ≡ 0) (d : IsPaired operation target ranges part left) where
+  pub whole_pairs : part ≡ []
+  whole_pairs =
+      let fit = fit_pairs (has_ranges operation) _ d.fits in
+      let few = d.part_fits in
+      no_bytes part (omega (arith, fit.0))
 
-  pub repair_asked : IsPaired Paireds.Repair (Some target) ranges part left
-      → second_request_of (16 ∷ (pair_fields (target ∷ ranges) ++ part)) ≡ Some (Requests.Repair target.0 target.1)
-  repair_asked d =
-      let no_part = whole_pairs Paireds.Repair (Some target) ranges part left d none in
-      let whole = is_equal _ 16 d.fits in
-      let empty : length ranges ≡ 0 = omega arith in
-      ap (λ (l : List ℕ). second_request_of (16 ∷ l))
-      (ap (λ (l : List ℕ). pair_fields (target ∷ ranges) ++ l) no_part ∙ append-nil (pair_fields (target ∷ ranges)) ∙ ap (λ (l : List (ℕ × ℕ)). pair_fields (target ∷ l)) (none_left ranges empty))
-      ∙ repair_asks target (All-cons IsSmallPair target [] (small_first target ranges d.numbers_fit) (All-nil IsSmallPair))
-    where
-      none_left : (l : List (ℕ × ℕ)) → length l ≡ 0 → l ≡ []
-      none_left [] h = refl
-      none_left (p ∷ ps) h = absurd (omega arith)
+module _ (operation : Operation) (target : ℕ × ℕ) (ranges : List (ℕ × ℕ)) (part : List ℕ) (left : ℕ) (none : left ≡ 0) (d : IsPaired operation (Some target) ranges part left) where
+  count_is : 16 * length (target ∷ ranges) + length part + left ≡ 16 * length (target ∷ ranges)
+  count_is = let empty : length part ≡ 0 = ap (λ (l : List ℕ). length l) (whole_pairs operation (Some target) ranges part left none d) in omega arith
 
-pub pairs_decoded : (operation : Paired) (target : Option (ℕ × ℕ)) (ranges : List (ℕ × ℕ)) (part : List ℕ) (left : ℕ) (operation' : Paired) (target' : Option (ℕ × ℕ)) → operation ≡ operation' → target ≡ target'
-    → IsPaired operation target ranges part left → IsPaired operation' target' ranges part left
-pairs_decoded operation target ranges part left operation' target' e f d =
-    subst (λ (o : Paired). IsPaired o target' ranges part left) e (subst (λ (t : Option (ℕ × ℕ)). IsPaired operation t ranges part left) f d)
+  -- what they ask for, by what is made of them
+  second_asks : request_of 2 (number_of operation ∷ (pair_fields (target ∷ ranges) ++ part)) ≡ made operation (pair_fields (target ∷ ranges))
+  second_asks =
+      let all : List ℕ = pair_fields (target ∷ ranges) in
+      let no_part = whole_pairs operation (Some target) ranges part left none d in
+      let fit : fits operation (length all) ≡ true =
+      second_fits operation (length all) d.second ∙ ap (λ (n : ℕ). pairs_fit (has_ranges operation) n) (pair_fields-length (target ∷ ranges) ∙ sym count_is) ∙ d.fits in
+      ap (λ (l : List ℕ). request_of 2 (number_of operation ∷ l)) (ap (λ (l : List ℕ). all ++ l) no_part ∙ append-nil all)
+      ∙ known operation 2 all d.second.since
+      ∙ ap (λ (b : Bool). cond b (made operation all) None) fit
 
--- ---- operations of both versions
+  pub ranges_asked : has_ranges operation ≡ true → request_of 2 (number_of operation ∷ (pair_fields (target ∷ ranges) ++ part)) ≡ Some (ReadMany target.0 target.1 ranges)
+  ranges_asked has =
+      let all : List ℕ = pair_fields (target ∷ ranges) in
+      let l = pair_fields-length (target ∷ ranges) in
+      let small = small_first target ranges d.numbers_fit in
+      let count : length all / 16 - 1 ≡ length ranges = omega arith in
+      second_asks
+      ∙ ap (λ (b : Bool). cond b (Some (ReadMany (number_at 0 all) (number_at 8 all) (pairs_of (length all / 16 - 1) (drop 16 all)))) (request_with operation (numbers_in (numbers_of operation) all) (drop (8 * numbers_of operation) all))) has
+      ∙ ap (λ (n : ℕ). Some (ReadMany n (number_at 8 all) (pairs_of (length all / 16 - 1) (drop 16 all)))) (first_at target (pair_fields ranges) small.0)
+      ∙ ap (λ (n : ℕ). Some (ReadMany target.0 n (pairs_of (length all / 16 - 1) (drop 16 all)))) (second_at target (pair_fields ranges) small.1)
+      ∙ ap (λ (n : ℕ). Some (ReadMany target.0 target.1 (pairs_of n (drop 16 all)))) count
+      ∙ ap (λ (l : List ℕ). Some (ReadMany target.0 target.1 (pairs_of (length ranges) l))) (behind_pair target (pair_fields ranges))
+      ∙ ap (λ (ps : List (ℕ × ℕ)). Some (ReadMany target.0 target.1 ps)) (pairs_back ranges (length ranges) refl (small_others target ranges d.numbers_fit))
 
-differs : (a b : ℕ) → a ≢ b → (a == b) ≡ false
-differs a b h = grind (arith, nat_tests, h)
+  pub numbers_asked : has_ranges operation ≡ false → request_of 2 (number_of operation ∷ (pair_fields (target ∷ ranges) ++ part)) ≡ request_with operation (target.0 ∷ target.1 ∷ []) []
+  numbers_asked has =
+      let all : List ℕ = pair_fields (target ∷ []) in
+      let small = small_first target ranges d.numbers_fit in
+      let whole = is_equal (16 * length (target ∷ ranges)) 16 (ap (λ (b : Bool). pairs_fit b (16 * length (target ∷ ranges))) (sym has) ∙ ap (λ (n : ℕ). pairs_fit (has_ranges operation) n) (sym count_is) ∙ d.fits) in
+      second_asks
+      ∙ ap (λ (l : List (ℕ × ℕ)). made operation (pair_fields (target ∷ l))) (no_pairs ranges (omega arith))
+      ∙ ap (λ (b : Bool). cond b (Some (ReadMany (number_at 0 all) (number_at 8 all) (pairs_of (length all / 16 - 1) (drop 16 all)))) (request_with operation (numbers_in (numbers_of operation) all) (drop (8 * numbers_of operation) all))) has
+      ∙ ap (λ (n : ℕ). request_with operation (numbers_in n all) (drop (8 * n) all)) d.second.numbers
+      ∙ ap (λ (n : ℕ). request_with operation (n ∷ number_at 8 all ∷ []) (drop 16 all)) (first_at target [] small.0)
+      ∙ ap (λ (n : ℕ). request_with operation (target.0 ∷ n ∷ []) (drop 16 all)) (second_at target [] small.1)
+      ∙ ap (λ (l : List ℕ). request_with operation (target.0 ∷ target.1 ∷ []) l) (behind_pair target [])
 
--- an operation that isn't one of the two asks for the same in both versions
-pub second_as_first : (first : ℕ) (bytes : List ℕ) → first ≢ 15 → first ≢ 16 → second_request_of (first ∷ bytes) ≡ request_of (first ∷ bytes)
-second_as_first first bytes h k = rw (differs first 15 h, differs first 16 k) refl
+pub target_is : (operation : Operation) (target target' : Option (ℕ × ℕ)) (ranges : List (ℕ × ℕ)) (part : List ℕ) (left : ℕ) → target ≡ target' → IsPaired operation target ranges part left → IsPaired operation target' ranges part left
+target_is operation target target' ranges part left e d = subst (λ (t : Option (ℕ × ℕ)). IsPaired operation t ranges part left) e d

@@ -1,17 +1,18 @@
 -- What operations and their fields ask for.
-use Rattle.std.proofs.Common.{◌≡◌, ◌≢◌, ◌∙◌, ℕ, zero, suc, ◌+◌, ◌*◌, ◌^◌, ◌<◌, ◌≤◌, ◌==◌, nat_le, true, false, true≢false, List, [], ◌∷◌, ◌++◌, length, drop, slice_index, Some, None, refl, sym, ap, arith, append_assoc, length-append, inl, inr}
+use Rattle.std.proofs.Common.{◌≡◌, ◌∙◌, ℕ, suc, ◌+◌, ◌-◌, ◌*◌, ◌/◌, ◌^◌, ◌<◌, ◌≤◌, ◌==◌, nat_le, Bool, cond, not, true, false, true≢false, List, [], ◌∷◌, ◌++◌, length, drop, slice_index, Option, Some, None, refl, sym, ap, arith, append_assoc, length-append, inl, inr}
 use Rattle.std.proofs.Math.Seq.{drop-append-add}
 use Rattle.std.proofs.lemmas.Bool.{cases_lt}
 use Rattle.std.proofs.lemmas.Bool.Decides.{nat_tests}
 use Rattle.byteorder.specs.Endian.{big_number}
 use Rattle.byteorder.specs.Numbers.{big_number-reads_back, length-bytes_high_first}
-use Rattle.frame_wire.specs.Requests.{number_at, request_of}
-use Rattle.frame_wire.specs.Said.{field, wide_field, fields}
-use Rattle.request_form.specs.Operations.{numbers_of, has_bytes, request_with}
-use Rattle.frame_wire.specs.Operations.{number_of, fits}
-use Rattle.frame_wire.specs.Decoded.{IsDecoded}
+use Rattle.request_form.specs.declared.form.Request.{Request}
+use Rattle.request_form.specs.declared.form.Request.TheVariants.{ReadMany}
 use Rattle.request_form.specs.declared.operation.Operation.{Operation}
-use Rattle.request_form.specs.declared.operation.Operation.TheVariants as Operations
+use Rattle.request_form.specs.Operations.{number_of, since_of, numbers_of, has_bytes, has_ranges, is_since, IsSince, request_with}
+use Rattle.request_form.proofs.Rows.{each, number_found, since_test, since_more}
+use Rattle.frame_wire.specs.Requests.{number_at, numbers_in, pairs_of, fits_by, fits, made, request_in, request_of}
+use Rattle.frame_wire.specs.Said.{field, wide_field, fields}
+use Rattle.frame_wire.specs.Decoded.{IsDecoded}
 
 -- ---- numbers as fields
 
@@ -44,15 +45,15 @@ fields-split n ns bytes = append_assoc (field n) (fields ns) bytes
 drop_past : (n start : ℕ) (rest : List ℕ) → drop (8 + start) (field n ++ rest) ≡ drop start rest
 drop_past n start rest = ap (λ (m : ℕ). drop (m + start) (field n ++ rest)) (sym (field-length n)) ∙ drop-append-add (field n) rest start
 
--- each number is read at its start
-pub number_at_is : (start k : ℕ) (ns bytes : List ℕ) → start ≡ 8 * k → k < length ns → AllSmall ns → number_at start (fields ns ++ bytes) ≡ slice_index ns k
-number_at_is start k [] bytes e less small = absurd (omega arith)
-number_at_is start zero (n ∷ ns) bytes e less small =
-    let none : start ≡ 0 = omega arith in
-    rw (none, fields-split n ns bytes) (field-number n (fields ns ++ bytes) (small 0))
-number_at_is start (suc k) (n ∷ ns) bytes e less small =
-    let on : start ≡ 8 + 8 * k = omega arith in
-    rw (on, fields-split n ns bytes, drop_past n (8 * k) (fields ns ++ bytes)) (number_at_is (8 * k) k ns bytes refl (omega arith) (λ i. small (suc i)))
+-- numbers are read where they stand
+pub numbers_back : (ns bytes : List ℕ) → AllSmall ns → numbers_in (length ns) (fields ns ++ bytes) ≡ ns
+numbers_back [] bytes small = refl
+numbers_back (n ∷ ns) bytes small =
+    let rest : List ℕ = fields ns ++ bytes in
+    ap (λ (l : List ℕ). number_at 0 l ∷ numbers_in (length ns) (drop 8 l)) (fields-split n ns bytes)
+    ∙ ap (λ (m : ℕ). m ∷ numbers_in (length ns) (drop 8 (field n ++ rest))) (field-number n rest (small 0))
+    ∙ ap (λ (l : List ℕ). n ∷ numbers_in (length ns) l) (drop_past n 0 rest)
+    ∙ ap (λ (l : List ℕ). n ∷ l) (numbers_back ns bytes (λ i. small (suc i)))
 
 -- and behind the numbers are the bytes
 pub drop_fields : (start : ℕ) (ns bytes : List ℕ) → start ≡ 8 * length ns → drop start (fields ns ++ bytes) ≡ bytes
@@ -64,23 +65,26 @@ drop_fields start (n ∷ ns) bytes e =
 -- ---- operations
 
 -- an operation whose fields are cut short, or followed by more bytes, asks for nothing
-pub misfit : (operation : Operation) (bytes : List ℕ) → fits operation (length bytes) ≡ false → request_of (number_of operation ∷ bytes) ≡ None
-misfit Operations.Create [] h = absurd (true≢false h)
-misfit Operations.Create (b ∷ bs) h = refl
-misfit Operations.Append bytes h = rw h refl
-misfit Operations.Write bytes h = rw h refl
-misfit Operations.StartAppend bytes h = rw h refl
-misfit Operations.StartWrite bytes h = rw h refl
-misfit Operations.Finish bytes h = rw h refl
-misfit Operations.Read bytes h = rw h refl
-misfit Operations.Recent bytes h = rw h refl
-misfit Operations.Size bytes h = rw h refl
-misfit Operations.Sync bytes h = rw h refl
-misfit Operations.Status bytes h = rw h refl
-misfit Operations.Branch bytes h = rw h refl
-misfit Operations.Repair bytes h = refl
-misfit Operations.Quit [] h = absurd (true≢false h)
-misfit Operations.Quit (b ∷ bs) h = refl
+pub misfit : (operation : Operation) (bytes : List ℕ) → fits operation (length bytes) ≡ false → request_in (Some operation) bytes ≡ None
+misfit operation bytes h = ap (λ (b : Bool). cond b (made operation bytes) None) h
+
+-- frames of the version since which an operation is there have it
+pub known : (operation : Operation) (version : ℕ) (bytes : List ℕ) → IsSince (since_of operation) version → request_of version (number_of operation ∷ bytes) ≡ request_in (Some operation) bytes
+known operation version bytes since = ap (λ (o : Option Operation). request_in o bytes) (number_found operation (number_of operation) version (refl, since))
+
+-- what frames of version 1 have begins no ranges
+pub not_true : (b : Bool) → not b ≡ true → b ≡ false
+not_true true h = sym h
+not_true false h = refl
+
+first_test : (a c : Bool) → cond a c true ≡ true → a ≡ true → c ≡ true
+first_test true c h e = h
+first_test false c h e = absurd (true≢false (sym e))
+
+pub first_plain : (operation : Operation) → IsSince (since_of operation) 1 → has_ranges operation ≡ false
+first_plain operation since =
+    let all = each (λ o. cond (is_since (since_of o) 1) (not (has_ranges o)) true) refl operation in
+    not_true (has_ranges operation) (first_test (is_since (since_of operation) 1) (not (has_ranges operation)) all (since_test (since_of operation) 1 since))
 
 exactly : (m n : ℕ) → n ≡ m → (n == m) ≡ true
 exactly m n e = grind (arith, nat_tests, e)
@@ -94,53 +98,25 @@ both_length ns bytes = let l = length-append (fields ns) bytes in let n = fields
 none_behind : (ns bytes : List ℕ) → bytes ≡ [] → length (fields ns ++ bytes) ≡ 8 * length ns
 none_behind ns bytes e = let l = both_length ns bytes in let none : length bytes ≡ 0 = ap (λ (l : List ℕ). length l) e in omega arith
 
+whole_by : (bytes ranges : Bool) (k n : ℕ) → ranges ≡ false → 8 * k ≤ n → (bytes ≡ false → n ≡ 8 * k) → fits_by bytes ranges k n ≡ true
+whole_by true ranges k n plain least exact = at_least (8 * k) n least
+whole_by false true k n plain least exact = absurd (true≢false plain)
+whole_by false false k n plain least exact = exactly (8 * k) n (exact refl)
+
 -- the fields of whole requests
-pub asks : (operation : Operation) (ns bytes : List ℕ) → operation ≢ Operations.Repair → length ns ≡ numbers_of operation → (has_bytes operation ≡ false → bytes ≡ []) → AllSmall ns
-    → request_of (number_of operation ∷ (fields ns ++ bytes)) ≡ Some (request_with operation ns bytes)
-asks Operations.Create [] bytes plain count only small = rw (only refl) refl
-asks Operations.Create (n ∷ ns) bytes plain count only small = absurd (omega arith)
-asks Operations.Append ns bytes plain count only small =
+pub asks : (operation : Operation) (ns bytes : List ℕ) → has_ranges operation ≡ false → length ns ≡ numbers_of operation → (has_bytes operation ≡ false → bytes ≡ []) → AllSmall ns
+    → request_in (Some operation) (fields ns ++ bytes) ≡ request_with operation ns bytes
+asks operation ns bytes plain count only small =
+    let all : List ℕ = fields ns ++ bytes in
     let whole = both_length ns bytes in
-    rw (at_least 8 (length (fields ns ++ bytes)) (omega arith), number_at_is 0 0 ns bytes refl (omega arith) small, drop_fields 8 ns bytes (omega arith)) refl
-asks Operations.Write ns bytes plain count only small =
-    let whole = both_length ns bytes in
-    rw (at_least 16 (length (fields ns ++ bytes)) (omega arith), number_at_is 0 0 ns bytes refl (omega arith) small, number_at_is 8 1 ns bytes refl (omega arith) small, drop_fields 16 ns bytes (omega arith)) refl
-asks Operations.StartAppend ns bytes plain count only small =
-    let whole = both_length ns bytes in
-    rw (at_least 8 (length (fields ns ++ bytes)) (omega arith), number_at_is 0 0 ns bytes refl (omega arith) small, drop_fields 8 ns bytes (omega arith)) refl
-asks Operations.StartWrite ns bytes plain count only small =
-    let whole = both_length ns bytes in
-    rw (at_least 16 (length (fields ns ++ bytes)) (omega arith), number_at_is 0 0 ns bytes refl (omega arith) small, number_at_is 8 1 ns bytes refl (omega arith) small, drop_fields 16 ns bytes (omega arith)) refl
-asks Operations.Finish ns bytes plain count only small =
-    let whole = none_behind ns bytes (only refl) in
-    rw (exactly 8 (length (fields ns ++ bytes)) (omega arith), number_at_is 0 0 ns bytes refl (omega arith) small) refl
-asks Operations.Read ns bytes plain count only small =
-    let whole = none_behind ns bytes (only refl) in
-    rw (
-      exactly 32 (length (fields ns ++ bytes)) (omega arith),
-      number_at_is 0 0 ns bytes refl (omega arith) small,
-      number_at_is 8 1 ns bytes refl (omega arith) small,
-      number_at_is 16 2 ns bytes refl (omega arith) small,
-      number_at_is 24 3 ns bytes refl (omega arith) small,
-    ) refl
-asks Operations.Recent ns bytes plain count only small =
-    let whole = none_behind ns bytes (only refl) in
-    rw (exactly 8 (length (fields ns ++ bytes)) (omega arith), number_at_is 0 0 ns bytes refl (omega arith) small) refl
-asks Operations.Size ns bytes plain count only small =
-    let whole = none_behind ns bytes (only refl) in
-    rw (exactly 16 (length (fields ns ++ bytes)) (omega arith), number_at_is 0 0 ns bytes refl (omega arith) small, number_at_is 8 1 ns bytes refl (omega arith) small) refl
-asks Operations.Sync ns bytes plain count only small =
-    let whole = none_behind ns bytes (only refl) in
-    rw (exactly 16 (length (fields ns ++ bytes)) (omega arith), number_at_is 0 0 ns bytes refl (omega arith) small, number_at_is 8 1 ns bytes refl (omega arith) small) refl
-asks Operations.Status ns bytes plain count only small =
-    let whole = none_behind ns bytes (only refl) in
-    rw (exactly 8 (length (fields ns ++ bytes)) (omega arith), number_at_is 0 0 ns bytes refl (omega arith) small) refl
-asks Operations.Branch ns bytes plain count only small =
-    let whole = none_behind ns bytes (only refl) in
-    rw (exactly 16 (length (fields ns ++ bytes)) (omega arith), number_at_is 0 0 ns bytes refl (omega arith) small, number_at_is 8 1 ns bytes refl (omega arith) small) refl
-asks Operations.Repair ns bytes plain count only small = absurd (plain refl)
-asks Operations.Quit [] bytes plain count only small = rw (only refl) refl
-asks Operations.Quit (n ∷ ns) bytes plain count only small = absurd (omega arith)
+    let k = numbers_of operation in
+    let ranged : Option Request = Some (ReadMany (number_at 0 all) (number_at 8 all) (pairs_of (length all / 16 - 1) (drop 16 all))) in
+    ap (λ (b : Bool). cond b (made operation all) None)
+    (whole_by (has_bytes operation) (has_ranges operation) k (length all) plain (omega (arith, whole, count)) (λ e. none_behind ns bytes (only e) ∙ ap (λ (n : ℕ). 8 * n) count))
+    ∙ ap (λ (b : Bool). cond b ranged (request_with operation (numbers_in k all) (drop (8 * k) all))) plain
+    ∙ ap (λ (n : ℕ). request_with operation (numbers_in n all) (drop (8 * n) all)) (sym count)
+    ∙ ap (λ (l : List ℕ). request_with operation l (drop (8 * length ns) all)) (numbers_back ns bytes small)
+    ∙ ap (λ (l : List ℕ). request_with operation ns l) (drop_fields (8 * length ns) ns bytes refl)
 
 -- ---- what was decoded, once nothing more is to come
 
@@ -154,14 +130,15 @@ whole_count operation ns part bytes left d none = elim (cases_lt (length ns) (nu
       absurd (omega arith)
 ]
 
--- what is kept is the request's bytes, and asks for it
-pub decoded_asks : (operation : Operation) (ns part bytes : List ℕ) (left : ℕ) → IsDecoded operation ns part bytes left → left ≡ 0 → AllSmall ns
-    → request_of (number_of operation ∷ (fields ns ++ (part ++ bytes))) ≡ Some (request_with operation ns bytes)
-decoded_asks operation ns part bytes left d none small =
+-- what is kept is the request's bytes, and asks for it in frames of each version
+pub decoded_asks : (operation : Operation) (ns part bytes : List ℕ) (left version : ℕ) → IsDecoded operation ns part bytes left → left ≡ 0 → AllSmall ns → 1 ≤ version
+    → request_of version (number_of operation ∷ (fields ns ++ (part ++ bytes))) ≡ request_with operation ns bytes
+decoded_asks operation ns part bytes left version d none small later =
     let count : length ns ≡ numbers_of operation = whole_count operation ns part bytes left d none in
     let no_part : part ≡ [] = d.no_part count in
-    ap (λ (l : List ℕ). request_of (number_of operation ∷ (fields ns ++ (l ++ bytes)))) no_part
-    ∙ asks operation ns bytes d.in_first count (λ h. empty bytes (let all = d.exact h in let parts : length part ≡ 0 = ap (λ (l : List ℕ). length l) no_part in omega arith)) small
+    ap (λ (l : List ℕ). request_of version (number_of operation ∷ (fields ns ++ (l ++ bytes)))) no_part
+    ∙ known operation version (fields ns ++ bytes) (since_more (since_of operation) 1 version d.since later)
+    ∙ asks operation ns bytes (first_plain operation d.since) count (λ h. empty bytes (let all = d.exact h in let parts : length part ≡ 0 = ap (λ (l : List ℕ). length l) no_part in omega arith)) small
   where
     empty : (l : List ℕ) → length l ≡ 0 → l ≡ []
     empty [] h = refl

@@ -1,15 +1,13 @@
 -- What is kept of a request's fields.
-use Rattle.std.specs.Prelude.{◌≡◌, ◌≢◌, ◌+◌, ◌*◌, ◌^◌, ◌<◌, ◌≤◌, ℕ, List, [], ◌∷◌, length, Option, Some, None, true, false}
+use Rattle.std.specs.Prelude.{◌≡◌, ◌+◌, ◌*◌, ◌^◌, ◌<◌, ◌≤◌, ◌==◌, ℕ, Bool, List, [], ◌∷◌, length, Option, Some, None, true, false}
 use Rattle.std.specs.List.{All}
 use Rattle.request_form.specs.declared.operation.Operation.{Operation}
-use Rattle.request_form.specs.declared.operation.Operation.TheVariants as Operations
-use Rattle.request_form.specs.Operations.{numbers_of, has_bytes}
-use Rattle.frame_wire.specs.Operations.{pairs_fit}
-use Rattle.frame_wire.specs.declared.pairs.Paired.{Paired}
+use Rattle.request_form.specs.Operations.{since_of, numbers_of, has_bytes, has_ranges, IsSince}
+use Rattle.frame_wire.specs.Requests.{holds_ranges}
 
 -- of the numbers, then of the next one, then of the bytes behind all numbers; and what is still to come makes the fields whole
 pub record IsDecoded (operation : Operation) (numbers part bytes : List ℕ) (left : ℕ) : Type 0 where
-  pub in_first : operation ≢ Operations.Repair
+  pub since : IsSince (since_of operation) 1
   pub numbers_fit : length numbers ≤ numbers_of operation
   pub part_fits : length part < 8
   pub bytes_wait : length numbers < numbers_of operation → bytes ≡ []
@@ -26,9 +24,21 @@ all_pairs (Some target) ranges = target ∷ ranges
 abbrev pub IsSmallPair : ℕ × ℕ → Type 0
 IsSmallPair pair = (pair.0 < 2 ^ 64) × (pair.1 < 2 ^ 64)
 
+-- an operation that frames have since version 2: its fields are a blob and its version, and ranges or nothing behind them
+pub record IsSecond (operation : Operation) : Type 0 where
+  pub since : IsSince (since_of operation) 2
+  pub numbers : numbers_of operation ≡ 2
+  pub no_bytes : has_bytes operation ≡ false
+
+-- whether so many bytes are its fields, where it has ranges or has none
+abbrev pub pairs_fit : Bool → ℕ → Bool
+pairs_fit true count = holds_ranges count
+pairs_fit false count = count == 16
+
 -- the same of pairs of numbers, then of the next one
-pub record IsPaired (operation : Paired) (target : Option (ℕ × ℕ)) (ranges : List (ℕ × ℕ)) (part : List ℕ) (left : ℕ) : Type 0 where
+pub record IsPaired (operation : Operation) (target : Option (ℕ × ℕ)) (ranges : List (ℕ × ℕ)) (part : List ℕ) (left : ℕ) : Type 0 where
+  pub second : IsSecond operation
   pub numbers_fit : All IsSmallPair (all_pairs target ranges)
   pub part_fits : length part < 16
   pub ranges_wait : target ≡ None → ranges ≡ []
-  pub fits : pairs_fit operation (16 * length (all_pairs target ranges) + length part + left) ≡ true
+  pub fits : pairs_fit (has_ranges operation) (16 * length (all_pairs target ranges) + length part + left) ≡ true

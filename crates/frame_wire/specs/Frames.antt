@@ -9,7 +9,9 @@ use Rattle.request_form.specs.declared.form.Heard.TheVariants.{Asked, Wrong}
 use Rattle.request_form.specs.declared.form.Fault.TheVariants.{BadFrame, FrameTooLong}
 use Rattle.std.proofs.Common.{refl, lit<}
 use Rattle.items.specs.Framing.{Framing, IsFraming, framed}
-use Rattle.frame_wire.specs.Requests.{request_of, second_request_of}
+use Rattle.request_form.specs.declared.operation.Operation.TheVariants as Operations
+use Rattle.request_form.specs.Operations.{number_of}
+use Rattle.frame_wire.specs.Requests.{request_of}
 
 -- the most bytes that a frame's length may count, in version 1 and in version 2
 abbrev pub max_frame : ℕ
@@ -29,7 +31,7 @@ request_frames = record {
   limit = max_frame;
   too_long = λ length. Wrong (FrameTooLong length);
   bad = Wrong BadFrame;
-  spelled = λ bytes. heard_as (request_of bytes);
+  spelled = λ bytes. heard_as (request_of 1 bytes);
 }
 
 -- and of version 2
@@ -38,7 +40,7 @@ second_frames = record {
   limit = second_max_frame;
   too_long = λ length. Wrong (FrameTooLong length);
   bad = Wrong BadFrame;
-  spelled = λ bytes. heard_as (second_request_of bytes);
+  spelled = λ bytes. heard_as (request_of 2 bytes);
 }
 
 -- no operation has the number 0
@@ -48,9 +50,9 @@ request_frames_hold = record { fits = lit< tt; empty = refl; zero = λ bytes. re
 pub second_frames_hold : IsFraming second_frames
 second_frames_hold = record { fits = lit< tt; empty = refl; zero = λ bytes. refl }
 
--- The frame by which a stream asks for frames of version 2: it has 9 bytes, operation 14 and that number.
+-- The frame by which a stream asks for frames of version 2: it has 9 bytes, its operation and that number.
 abbrev pub hello : List ℕ
-hello = 0 ∷ 0 ∷ 0 ∷ 9 ∷ 14 ∷ 0 ∷ 0 ∷ 0 ∷ 0 ∷ 0 ∷ 0 ∷ 0 ∷ 2 ∷ []
+hello = 0 ∷ 0 ∷ 0 ∷ 9 ∷ number_of Operations.Hello ∷ 0 ∷ 0 ∷ 0 ∷ 0 ∷ 0 ∷ 0 ∷ 0 ∷ 2 ∷ []
 
 -- whether it is the first frame of a stream
 abbrev pub begins_with_hello : List ℕ → Bool

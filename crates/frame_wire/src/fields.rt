@@ -1,11 +1,10 @@
-ghost use Rattle.std.specs.Prelude.{◌≡◌, ◌≢◌, ◌<◌, ◌≤◌, ◌∷◌, ◌++◌, [], length, take, min, true, IfOk, OnErr, Some};
-ghost use Rattle.frame_wire.specs.Requests.{request_of};
-ghost use Rattle.frame_wire.specs.Operations.{number_of, fits};
+ghost use Rattle.std.specs.Prelude.{◌≡◌, ◌<◌, ◌≤◌, ◌∷◌, ◌++◌, ℕ, [], length, take, min, true, IfOk, OnErr};
+ghost use Rattle.request_form.specs.Operations.{number_of, since_of, IsSince};
+ghost use Rattle.frame_wire.specs.Requests.{fits, request_of};
 ghost use Rattle.items.specs.Come.{Come, TakesBytes};
-ghost use Rattle.request_form.specs.declared.operation.Operation.TheVariants.{Repair};
 
 use crate::number::take_number;
-use crate::operation::{fits, operation_of};
+use crate::operation::{heard, known};
 use arrayvec::ArrayVec;
 use blob_model::Bytes;
 use items::frames::Body;
@@ -16,8 +15,8 @@ use std::marker::Model;
 // The most bytes that the length of a frame of version 1 may count.
 const MAX_FRAME: u32 = 2_097_152;
 
-/// What has come of a request's fields in version 1, decoded. Contracts see the operation and the bytes that have come behind it, and how many
-/// are still to come.
+/// What has come of the fields of a request that version 1 has, decoded. Contracts see the operation and the bytes that have come
+/// behind it, and how many are still to come.
 #[derive(Drop)]
 pub struct Fields {
     operation: Operation,
@@ -36,8 +35,8 @@ impl Model for Fields {
 
     ghost coded = { come_coded };
 
+    ghost use Rattle.request_form.specs.Operations.{number_of};
     ghost use Rattle.frame_wire.specs.Said.{fields};
-    ghost use Rattle.frame_wire.specs.Operations.{number_of};
     ghost use Rattle.frame_wire.specs.Decoded.{IsDecoded};
 
     ghost view = { λ f. record { bytes = number_of f.operation ∷ (fields f.numbers.items ++ (f.part.items ++ f.bytes.items)); left = f.left } };
@@ -62,10 +61,10 @@ fn take_bytes(bytes: &mut Vec<u8>, left: u32, piece: &[u8]) -> Result<usize, NoM
 }
 
 impl Fields {
-    // The fields of an operation, of which nothing has come.
-    fn of(alloc: Global, operation: Operation, left: u32) -> Fields
+    /// The fields of an operation, of which nothing has come.
+    pub(crate) fn of(alloc: Global, operation: Operation, left: u32) -> Fields
         requires fits { fits operation left ≡ true }
-        requires in_first { operation ≢ Repair }
+        requires since { IsSince (since_of operation) 1 }
         ensures { result ≡ record { bytes = number_of operation ∷ []; left = left } }
     {
         Fields {
@@ -77,10 +76,10 @@ impl Fields {
         }
     }
 
-    /// The request, now that all has come.
-    pub(crate) fn into_request(self) -> Request
+    /// What they ask for, now that all has come, in frames of each version.
+    pub(crate) fn into_request(self) -> Option<Request>
         requires { self.left ≡ 0 }
-        ensures { request_of self.bytes ≡ Some result }
+        ensures { (version : ℕ) → 1 ≤ version → request_of version self.bytes ≡ result }
     {
         let Fields {
             operation,
@@ -110,10 +109,8 @@ impl Body for Fields {
     }
 
     fn begin(alloc: Global, first: u8, left: u32) -> Option<Fields> {
-        match operation_of(first) {
-            Some(operation) if fits(operation, left) => Some(Fields::of(alloc, operation, left)),
-            _ => None,
-        }
+        let operation = known(1, first, left)?;
+        Some(Fields::of(alloc, operation, left))
     }
 
     fn left(&self) -> u32 {
@@ -131,7 +128,7 @@ impl Body for Fields {
     }
 
     fn into_item(self) -> Heard {
-        Heard::Asked(self.into_request())
+        heard(self.into_request())
     }
 
     fn bad() -> Heard {

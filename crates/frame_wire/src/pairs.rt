@@ -1,34 +1,26 @@
-ghost use Rattle.std.specs.Prelude.{◌≡◌, ◌≢◌, ◌<◌, ◌≤◌, ◌+◌, ◌*◌, ◌∷◌, ◌++◌, [], length, take, true, false, IfOk, MatchOption, Some, None};
+ghost use Rattle.std.specs.Prelude.{◌≡◌, ◌≢◌, ◌<◌, ◌≤◌, ◌+◌, ◌*◌, ◌∷◌, ◌++◌, [], length, take, true, IfOk, None};
 ghost use Rattle.std.specs.List.{All};
 ghost use Rattle.std.specs.Vec.{vec_len, vec_capacity};
 ghost use Rattle.items.specs.Come.{Come, TakesBytes};
-ghost use Rattle.frame_wire.specs.Requests.{second_request_of};
-ghost use Rattle.frame_wire.specs.Operations.{paired_number, pairs_fit};
+ghost use Rattle.request_form.specs.Operations.{number_of};
+ghost use Rattle.frame_wire.specs.Requests.{fits, request_of};
 ghost use Rattle.frame_wire.specs.Said.{field, pair_fields};
-ghost use Rattle.frame_wire.specs.Decoded.{all_pairs, IsSmallPair};
+ghost use Rattle.frame_wire.specs.Decoded.{all_pairs, IsSmallPair, IsSecond};
 
 use crate::number::number;
 use arrayvec::ArrayVec;
+use blob_model::Bytes;
 use items::frames::fill;
-use request_form::{NoMemory, RangeList, Request};
+use request_form::{NoMemory, Operation, RangeList, Request};
 use std::alloc::Global;
 use std::marker::Model;
 
-// The bytes of a blob, a version and the most ranges.
-const MOST: u32 = 1_040;
-
-/// The operations of version 2 whose fields are pairs of numbers: a blob and its version, and ranges behind them or none.
-#[derive(Clone, Copy, Debug, PartialEq, Eq)]
-pub enum Paired {
-    ReadMany,
-    Repair,
-}
-
-/// What has come of such fields, decoded. Contracts see the operation and the bytes that have come behind it, and how many are
-/// still to come.
+/// What has come of the fields of a request that frames have since version 2, decoded: they are pairs of numbers, a blob and its version,
+/// and ranges behind them or none. Contracts see the operation and the bytes that have come behind it, and how many are still to come.
 #[derive(Drop)]
 pub struct Pairs {
-    operation: Paired,
+    alloc: Global,
+    operation: Operation,
     // The blob and its version, once they have come.
     target: Option<(u64, u64)>,
     ranges: Vec<(u64, u64)>,
@@ -45,36 +37,13 @@ impl Model for Pairs {
 
     ghost coded = { come_coded };
 
+    ghost use Rattle.request_form.specs.Operations.{number_of};
     ghost use Rattle.frame_wire.specs.Said.{pair_fields};
-    ghost use Rattle.frame_wire.specs.Operations.{paired_number};
     ghost use Rattle.frame_wire.specs.Decoded.{all_pairs, IsPaired};
 
-    ghost view = { λ p. record { bytes = paired_number p.operation ∷ (pair_fields (all_pairs p.target p.ranges.items) ++ p.part.items); left = p.left } };
+    ghost view = { λ p. record { bytes = number_of p.operation ∷ (pair_fields (all_pairs p.target p.ranges.items) ++ p.part.items); left = p.left } };
 
     ghost invariant = { λ p. IsPaired p.operation p.target p.ranges.items p.part.items p.left };
-}
-
-/// Which of them has that number.
-pub fn paired_of(number: u8) -> Option<Paired>
-    ensures { MatchOption result
-        ((number ≢ 15) × (number ≢ 16))
-        (λ operation. paired_number operation ≡ number) }
-{
-    match number {
-        15 => Some(Paired::ReadMany),
-        16 => Some(Paired::Repair),
-        _ => None,
-    }
-}
-
-// Whether so many bytes behind the operation are its fields, and nothing is left over.
-fn fits(operation: Paired, count: u32) -> bool
-    ensures { result ≡ pairs_fit operation count }
-{
-    match operation {
-        Paired::ReadMany => count % 16 == 0 && 32 <= count && count <= MOST,
-        Paired::Repair => count == 16,
-    }
 }
 
 // The two numbers that 16 bytes make.
@@ -133,22 +102,20 @@ fn take_pair(
 }
 
 impl Pairs {
-    /// The fields of an operation, of which nothing has come, or none where so many bytes aren't its fields.
-    pub fn of(alloc: Global, operation: Paired, left: u32) -> Option<Pairs>
-        ensures { MatchOption result
-            (pairs_fit operation left ≡ false)
-            (λ pairs. pairs ≡ record { bytes = paired_number operation ∷ []; left = left }) }
+    /// The fields of an operation, of which nothing has come.
+    pub fn of(alloc: Global, operation: Operation, left: u32) -> Pairs
+        requires fits { fits operation left ≡ true }
+        requires second { IsSecond operation }
+        ensures { result ≡ record { bytes = number_of operation ∷ []; left = left } }
     {
-        if !fits(operation, left) {
-            return None;
-        }
-        Some(Pairs {
+        Pairs {
+            alloc,
             operation,
             target: None,
             ranges: Vec::new(alloc),
             part: ArrayVec::new(),
             left,
-        })
+        }
     }
 
     /// How many bytes are still to come.
@@ -172,12 +139,13 @@ impl Pairs {
         Ok(count)
     }
 
-    /// The request, now that all has come.
-    pub fn into_request(self) -> Request
+    /// What they ask for, now that all has come.
+    pub fn into_request(self) -> Option<Request>
         requires { self.left ≡ 0 }
-        ensures { second_request_of self.bytes ≡ Some result }
+        ensures { request_of 2 self.bytes ≡ result }
     {
         let Pairs {
+            alloc,
             operation,
             target,
             ranges,
@@ -187,13 +155,14 @@ impl Pairs {
         let Some((blob, version)) = target else {
             unreachable!()
         };
-        match operation {
-            Paired::ReadMany => Request::ReadMany {
+        if operation.has_ranges() {
+            Some(Request::ReadMany {
                 blob,
                 version,
                 ranges: RangeList::of(ranges),
-            },
-            Paired::Repair => Request::Repair { blob, version },
+            })
+        } else {
+            operation.request(&[blob, version], Bytes::of(Vec::new(alloc)))
         }
     }
 }

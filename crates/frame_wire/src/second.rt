@@ -2,7 +2,8 @@
 ghost use Rattle.std.specs.Prelude.{◌≡◌};
 
 use crate::fields::Fields;
-use crate::pairs::{Pairs, paired_of};
+use crate::operation::{heard, known};
+use crate::pairs::Pairs;
 use items::frames::Body;
 use request_form::{Fault, Heard, NoMemory};
 use std::alloc::Global;
@@ -37,9 +38,11 @@ impl Body for SecondFields {
     }
 
     fn begin(alloc: Global, first: u8, left: u32) -> Option<SecondFields> {
-        match paired_of(first) {
-            Some(operation) => Some(SecondFields::Paired(Pairs::of(alloc, operation, left)?)),
-            None => Some(SecondFields::First(Fields::begin(alloc, first, left)?)),
+        let operation = known(2, first, left)?;
+        if operation.is_in(1) {
+            Some(SecondFields::First(Fields::of(alloc, operation, left)))
+        } else {
+            Some(SecondFields::Paired(Pairs::of(alloc, operation, left)))
         }
     }
 
@@ -59,8 +62,8 @@ impl Body for SecondFields {
 
     fn into_item(self) -> Heard {
         match self {
-            SecondFields::First(fields) => Heard::Asked(fields.into_request()),
-            SecondFields::Paired(pairs) => Heard::Asked(pairs.into_request()),
+            SecondFields::First(fields) => heard(fields.into_request()),
+            SecondFields::Paired(pairs) => heard(pairs.into_request()),
         }
     }
 

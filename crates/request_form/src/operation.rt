@@ -1,11 +1,13 @@
-ghost use Rattle.std.specs.Prelude.{◌≡◌, ◌<◌, ◌≤◌, ◌^◌, ℕ, length, slice_index};
-ghost use Rattle.request_form.specs.Operations.{numbers_of, has_bytes, request_with};
+ghost use Rattle.std.specs.Prelude.{◌≡◌, ◌<◌, ◌≤◌, ◌^◌, ℕ, length, slice_index, MatchOption};
+ghost use Rattle.std.specs.Bool.{MatchBool};
+ghost use Rattle.request_form.specs.declared.operation.Operation.{Operation};
+ghost use Rattle.request_form.specs.Operations.{number_of, since_of, numbers_of, has_bytes, has_ranges, IsSince, HasWord, HasNumber, request_with};
 
 use crate::form::Request;
 use blob_model::Bytes;
 
-/// What a client asks for, but for the fields: the command of a line, or the operation of a frame whose fields are numbers, and
-/// bytes behind them.
+/// What a client asks for, but for the fields: the command of a line, or the operation of a frame. Contracts name how each is spelled
+/// by the table `row_of`.
 #[derive(Clone, Copy, Debug, PartialEq, Eq)]
 pub enum Operation {
     Create,
@@ -20,12 +22,106 @@ pub enum Operation {
     Sync,
     Status,
     Branch,
-    Repair,
     Quit,
+    Hello,
+    ReadMany,
+    Repair,
+}
+
+// The operation with that number, whichever frames may have it.
+fn numbered(number: u8) -> Option<Operation>
+    ensures { MatchOption result
+        ((operation : Operation) → number_of operation ≡ number → ⊥)
+        (λ operation. number_of operation ≡ number) }
+{
+    match number {
+        1 => Some(Operation::Create),
+        2 => Some(Operation::Append),
+        3 => Some(Operation::Write),
+        4 => Some(Operation::StartAppend),
+        5 => Some(Operation::StartWrite),
+        6 => Some(Operation::Finish),
+        7 => Some(Operation::Read),
+        8 => Some(Operation::Recent),
+        9 => Some(Operation::Size),
+        10 => Some(Operation::Sync),
+        11 => Some(Operation::Status),
+        12 => Some(Operation::Branch),
+        13 => Some(Operation::Quit),
+        14 => Some(Operation::Hello),
+        15 => Some(Operation::ReadMany),
+        16 => Some(Operation::Repair),
+        _ => None,
+    }
 }
 
 impl Operation {
-    /// How many numbers its fields are.
+    /// The operation with that command in lines.
+    pub fn of_word(word: &[u8]) -> Option<Operation>
+        ensures { MatchOption result
+            ((operation : Operation) → HasWord operation word.now → ⊥)
+            (λ operation. HasWord operation word.now) }
+    {
+        // Those that come most often stand first. Mostly a word's length or its first letters tell it from another.
+        if word == b"append".as_slice() {
+            Some(Operation::Append)
+        } else if word == b"read".as_slice() {
+            Some(Operation::Read)
+        } else if word == b"write".as_slice() {
+            Some(Operation::Write)
+        } else if word == b"create".as_slice() {
+            Some(Operation::Create)
+        } else if word == b"start-append".as_slice() {
+            Some(Operation::StartAppend)
+        } else if word == b"start-write".as_slice() {
+            Some(Operation::StartWrite)
+        } else if word == b"finish".as_slice() {
+            Some(Operation::Finish)
+        } else if word == b"recent".as_slice() {
+            Some(Operation::Recent)
+        } else if word == b"size".as_slice() {
+            Some(Operation::Size)
+        } else if word == b"sync".as_slice() {
+            Some(Operation::Sync)
+        } else if word == b"status".as_slice() {
+            Some(Operation::Status)
+        } else if word == b"branch".as_slice() {
+            Some(Operation::Branch)
+        } else if word == b"repair".as_slice() {
+            Some(Operation::Repair)
+        } else if word == b"quit".as_slice() {
+            Some(Operation::Quit)
+        } else {
+            None
+        }
+    }
+
+    /// The operation with that number, where frames of that version may have it.
+    pub fn of_number(number: u8, version: u64) -> Option<Operation>
+        ensures { MatchOption result
+            ((operation : Operation) → HasNumber operation number version → ⊥)
+            (λ operation. HasNumber operation number version) }
+    {
+        let operation = numbered(number)?;
+        if operation.is_in(version) {
+            Some(operation)
+        } else {
+            None
+        }
+    }
+
+    /// Whether any frame of that version may have it.
+    pub fn is_in(self, version: u64) -> bool
+        ensures { MatchBool result (IsSince (since_of self) version) (IsSince (since_of self) version → ⊥) }
+    {
+        match self {
+            Operation::Hello => false,
+            Operation::ReadMany | Operation::Repair => version >= 2,
+            _ => version >= 1,
+        }
+    }
+
+    /// How many numbers its fields begin with.
     pub fn numbers(self) -> usize
         ensures numbers { result ≡ numbers_of self }
         ensures few { result ≤ 4 }
@@ -33,9 +129,10 @@ impl Operation {
         match self {
             Operation::Create | Operation::Quit => 0,
             Operation::Append | Operation::StartAppend => 1,
-            Operation::Finish | Operation::Recent | Operation::Status => 1,
+            Operation::Finish | Operation::Recent | Operation::Status | Operation::Hello => 1,
             Operation::Write | Operation::StartWrite => 2,
-            Operation::Size | Operation::Sync | Operation::Branch | Operation::Repair => 2,
+            Operation::Size | Operation::Sync | Operation::Branch => 2,
+            Operation::ReadMany | Operation::Repair => 2,
             Operation::Read => 4,
         }
     }
@@ -47,46 +144,56 @@ impl Operation {
         match self {
             Operation::Append | Operation::Write => true,
             Operation::StartAppend | Operation::StartWrite => true,
-            Operation::Create | Operation::Finish | Operation::Read => false,
-            Operation::Recent | Operation::Size | Operation::Sync => false,
-            Operation::Status | Operation::Branch | Operation::Repair | Operation::Quit => false,
+            _ => false,
         }
     }
 
-    /// The request with these numbers, and these bytes where it has any.
-    pub fn request(self, numbers: &[u64], bytes: Bytes) -> Request
+    /// Whether ranges follow the numbers.
+    pub fn has_ranges(self) -> bool
+        ensures { result ≡ has_ranges self }
+    {
+        match self {
+            Operation::ReadMany => true,
+            _ => false,
+        }
+    }
+
+    /// The request with these numbers, and these bytes where it has any. None where it has ranges.
+    pub fn request(self, numbers: &[u64], bytes: Bytes) -> Option<Request>
         requires { length numbers.now ≡ numbers_of self }
         ensures request { result ≡ request_with self numbers.now bytes }
         ensures numbers_fit { (i : ℕ) → slice_index numbers.now i < 2 ^ 64 }
     {
         match (self, numbers) {
-            (Operation::Create, _) => Request::Create,
-            (Operation::Append, &[blob]) => Request::Append { blob, bytes },
-            (Operation::Write, &[blob, offset]) => Request::Write {
+            (Operation::Create, _) => Some(Request::Create),
+            (Operation::Append, &[blob]) => Some(Request::Append { blob, bytes }),
+            (Operation::Write, &[blob, offset]) => Some(Request::Write {
                 blob,
                 offset,
                 bytes,
-            },
-            (Operation::StartAppend, &[blob]) => Request::StartAppend { blob, bytes },
-            (Operation::StartWrite, &[blob, offset]) => Request::StartWrite {
+            }),
+            (Operation::StartAppend, &[blob]) => Some(Request::StartAppend { blob, bytes }),
+            (Operation::StartWrite, &[blob, offset]) => Some(Request::StartWrite {
                 blob,
                 offset,
                 bytes,
-            },
-            (Operation::Finish, &[ticket]) => Request::Finish { ticket },
-            (Operation::Read, &[blob, version, offset, length]) => Request::Read {
+            }),
+            (Operation::Finish, &[ticket]) => Some(Request::Finish { ticket }),
+            (Operation::Read, &[blob, version, offset, length]) => Some(Request::Read {
                 blob,
                 version,
                 offset,
                 length,
-            },
-            (Operation::Recent, &[blob]) => Request::Recent { blob },
-            (Operation::Size, &[blob, version]) => Request::Size { blob, version },
-            (Operation::Sync, &[blob, version]) => Request::Sync { blob, version },
-            (Operation::Status, &[blob]) => Request::Status { blob },
-            (Operation::Branch, &[blob, version]) => Request::Branch { blob, version },
-            (Operation::Repair, &[blob, version]) => Request::Repair { blob, version },
-            (Operation::Quit, _) => Request::Quit,
+            }),
+            (Operation::Recent, &[blob]) => Some(Request::Recent { blob }),
+            (Operation::Size, &[blob, version]) => Some(Request::Size { blob, version }),
+            (Operation::Sync, &[blob, version]) => Some(Request::Sync { blob, version }),
+            (Operation::Status, &[blob]) => Some(Request::Status { blob }),
+            (Operation::Branch, &[blob, version]) => Some(Request::Branch { blob, version }),
+            (Operation::Quit, _) => Some(Request::Quit),
+            (Operation::Hello, &[version]) => Some(Request::Hello { version }),
+            (Operation::ReadMany, _) => None,
+            (Operation::Repair, &[blob, version]) => Some(Request::Repair { blob, version }),
             _ => unreachable!(),
         }
     }

@@ -11,27 +11,26 @@ use Rattle.script_text.proofs.NumberLemmas.{number_of-decimal}
 use Rattle.hex.proofs.HexLemmas.{length-encode_with, IsDigits-lower_digits}
 use Rattle.request_form.specs.declared.form.Request.{Request}
 use Rattle.request_form.specs.declared.operation.Operation.{Operation}
-use Rattle.request_form.specs.Operations.{numbers_of, has_bytes, request_with}
+use Rattle.request_form.specs.Operations.{numbers_of, has_bytes, HasWord, request_with}
 use Rattle.script_text.specs.Fields.{number_of, bytes_of}
-use Rattle.script_text.specs.Requests.{request_of}
+use Rattle.script_text.specs.Requests.{with_number, read_last, read, ask, request_of}
 use Rattle.script_text.specs.Lines.{fields_of}
 use Rattle.script_text.specs.Begun.{IsWithout, IsLetter, IsPlain}
-use Rattle.script_text.specs.Commands.{command_of}
-use Rattle.script_text.specs.Decoded.{AsksAs, AsksNothing, SpellsNoNumber, numbers_text, digits_of, part_text, fields_text, IsPart, IsDecoded, IsFieldBehind, BeginsPair, EndsNumber, Adds}
+use Rattle.script_text.specs.Decoded.{command_of, AsksAs, AsksNothing, SpellsNoNumber, numbers_text, digits_of, part_text, fields_text, IsPart, IsDecoded, IsFieldBehind, BeginsPair, EndsNumber, Adds}
 use Rattle.script_text.specs.declared.fields.Part.{Part}
 use Rattle.script_text.specs.declared.fields.Part.TheVariants.{Number, Dash, Digits}
 use Rattle.items.proofs.LinesHeard.{HasFirst, slice_split_has, split_behind}
 use Rattle.script_text.proofs.BytesLemmas.{dash_more, no_digit, no_second, pair_stands, whole_pairs, odd_pairs}
-use Rattle.script_text.proofs.FieldLemmas.{fields_of-cut, fields_of-one, IsSolid, solid_without, decimal_solid, command_letters, letters_solid, read_last, read, ask, with_number, with_number-none, with_numbers, with_numbers-none, with_numbers-some, AllSmall, text_splits, command_cut, command_reads, asks}
+use Rattle.script_text.proofs.FieldLemmas.{fields_of-cut, fields_of-one, IsSolid, solid_without, decimal_solid, command_letters, letters_solid, with_number-none, with_numbers, with_numbers-none, with_numbers-some, AllSmall, text_splits, command_cut, asks}
 
 -- ---- no request
 
 -- fields that are read as nothing make no request
-asks_nothing : (operation : Operation) (ns : List ℕ) (part : Part) (bytes : List ℕ) (byte k : ℕ) → AllSmall ns → length ns + k ≡ numbers_of operation
+asks_nothing : (operation : Operation) (ns : List ℕ) (part : Part) (bytes : List ℕ) (byte k : ℕ) → HasWord operation (command_of operation) → AllSmall ns → length ns + k ≡ numbers_of operation
     → ((more : List ℕ) → read k (has_bytes operation) (fields_of (part_text part bytes ++ byte ∷ more)) ≡ None) → AsksNothing (fields_text operation ns part bytes ++ byte ∷ [])
-asks_nothing operation ns part bytes byte k small e none more =
+asks_nothing operation ns part bytes byte k worded small e none more =
     ap (λ (l : List ℕ). request_of (fields_of l)) (append_assoc (fields_text operation ns part bytes) (byte ∷ []) more)
-    ∙ asks operation ns part bytes (byte ∷ more) k small e
+    ∙ asks operation ns part bytes (byte ∷ more) k worded small e
     ∙ ap (λ (p : Option (List ℕ × List ℕ)). ask operation (with_numbers ns p)) (none more)
     ∙ ap (λ (p : Option (List ℕ × List ℕ)). ask operation p) (with_numbers-none ns)
 
@@ -84,14 +83,14 @@ pub number_stops : (operation : Operation) (ns : List ℕ) (n : Option ℕ) (byt
     → AsksNothing (fields_text operation ns (Number n) bytes ++ byte ∷ [])
 number_stops operation ns n bytes byte d other none =
     let left = to_come ns (numbers_of operation) d.part_fits.0 in
-    asks_nothing operation ns (Number n) bytes byte (numbers_of operation - length ns) d.numbers_fit left.0
+    asks_nothing operation ns (Number n) bytes byte (numbers_of operation - length ns) d.worded d.numbers_fit left.0
     (dead_number (digits_of n) byte (numbers_of operation - length ns) (has_bytes operation) left.1 (number_without operation ns n bytes d.part_fits) other none)
 
 -- no number stands before the space
 pub number_missing : (operation : Operation) (ns bytes : List ℕ) → IsDecoded operation ns (Number None) bytes → AsksNothing (fields_text operation ns (Number None) bytes ++ 32 ∷ [])
 number_missing operation ns bytes d =
     let left = to_come ns (numbers_of operation) d.part_fits.0 in
-    asks_nothing operation ns (Number None) bytes 32 (numbers_of operation - length ns) d.numbers_fit left.0
+    asks_nothing operation ns (Number None) bytes 32 (numbers_of operation - length ns) d.worded d.numbers_fit left.0
     (λ more. read_some (numbers_of operation - length ns) (has_bytes operation) [] (fields_of more) left.1 refl)
 
 read_one_more : (bytes : Bool) (o : Option ℕ) (field : List ℕ) (fs : List (List ℕ)) → number_of field ≡ o → read_last bytes fs ≡ None → read 1 bytes (field ∷ fs) ≡ None
@@ -105,17 +104,17 @@ some_field text = let first = slice_split_has 32 text in ap (λ (fs : List (List
 pub numbers_over : (operation : Operation) (ns bytes : List ℕ) (n : ℕ) → IsDecoded operation ns (Number (Some n)) bytes → numbers_of operation ≡ length ns + 1 → has_bytes operation ≡ false
     → AsksNothing (fields_text operation ns (Number (Some n)) bytes ++ 32 ∷ [])
 numbers_over operation ns bytes n d last none =
-    asks_nothing operation ns (Number (Some n)) bytes 32 1 d.numbers_fit (omega arith)
+    asks_nothing operation ns (Number (Some n)) bytes 32 1 d.worded d.numbers_fit (omega arith)
     (λ more.
     ap (λ (fs : List (List ℕ)). read 1 (has_bytes operation) fs) (fields_of-cut (decimal n) more (solid_without (decimal n) (decimal_solid n d.part_fits.1)))
     ∙ ap (λ (b : Bool). read 1 b (decimal n ∷ fields_of more)) none
     ∙ read_one_more false (number_of (decimal n)) (decimal n) (fields_of more) refl (some_field more))
 
 -- bytes come last
-pub bytes_stop : (operation : Operation) (ns : List ℕ) (part : Part) (bytes : List ℕ) (byte : ℕ) → AllSmall ns → length ns ≡ numbers_of operation → has_bytes operation ≡ true
+pub bytes_stop : (operation : Operation) (ns : List ℕ) (part : Part) (bytes : List ℕ) (byte : ℕ) → HasWord operation (command_of operation) → AllSmall ns → length ns ≡ numbers_of operation → has_bytes operation ≡ true
     → IsWithout 32 (part_text part bytes) → ((field : List ℕ) → byte ≢ 32 → bytes_of (part_text part bytes ++ byte ∷ field) ≡ None) → AsksNothing (fields_text operation ns part bytes ++ byte ∷ [])
-bytes_stop operation ns part bytes byte small count has without none =
-    asks_nothing operation ns part bytes byte 0 small (omega arith)
+bytes_stop operation ns part bytes byte worded small count has without none =
+    asks_nothing operation ns part bytes byte 0 worded small (omega arith)
     (λ more. ap (λ (b : Bool). read 0 b (fields_of (part_text part bytes ++ byte ∷ more))) has ∙ dead_last (part_text part bytes) byte without none more)
 
 -- ---- hex digits
@@ -155,7 +154,7 @@ part_without operation ns part bytes d = solid_without (part_text part bytes) (p
 -- behind `-` nothing may stand
 pub dash_stops : (operation : Operation) (ns bytes : List ℕ) (byte : ℕ) → IsDecoded operation ns Dash bytes → AsksNothing (fields_text operation ns Dash bytes ++ byte ∷ [])
 dash_stops operation ns bytes byte d =
-    bytes_stop operation ns Dash bytes byte d.numbers_fit d.part_fits.0 d.part_fits.1 (part_without operation ns Dash bytes d) (λ field _. dash_more byte field)
+    bytes_stop operation ns Dash bytes byte d.worded d.numbers_fit d.part_fits.0 d.part_fits.1 (part_without operation ns Dash bytes d) (λ field _. dash_more byte field)
 
 none_behind : (bytes : List ℕ) (c : ℕ) (cs : List ℕ) → (encode_lower bytes ++ []) ++ c ∷ cs ≡ encode_lower bytes ++ c ∷ cs
 none_behind bytes c cs = ap (λ (l : List ℕ). l ++ c ∷ cs) (append-nil (encode_lower bytes))
@@ -163,7 +162,7 @@ none_behind bytes c cs = ap (λ (l : List ℕ). l ++ c ∷ cs) (append-nil (enco
 pub digit_stops : (operation : Operation) (ns bytes : List ℕ) (byte : ℕ) → IsDecoded operation ns (Digits None) bytes → is_hex_digit byte ≡ false → (bytes ≡ [] → byte ≢ 45)
     → AsksNothing (fields_text operation ns (Digits None) bytes ++ byte ∷ [])
 digit_stops operation ns bytes byte d bad other =
-    bytes_stop operation ns (Digits None) bytes byte d.numbers_fit d.part_fits.0 d.part_fits.1 (part_without operation ns (Digits None) bytes d)
+    bytes_stop operation ns (Digits None) bytes byte d.worded d.numbers_fit d.part_fits.0 d.part_fits.1 (part_without operation ns (Digits None) bytes d)
     (λ field _. ap (λ (l : List ℕ). bytes_of l) (none_behind bytes byte field) ∙ no_digit bytes byte field d.bytes_fit bad other)
 
 one_behind : (bytes : List ℕ) (high c : ℕ) (cs : List ℕ) → (encode_lower bytes ++ high ∷ []) ++ c ∷ cs ≡ encode_lower bytes ++ high ∷ c ∷ cs
@@ -172,7 +171,7 @@ one_behind bytes high c cs = append_assoc (encode_lower bytes) (high ∷ []) (c 
 pub pair_stops : (operation : Operation) (ns bytes : List ℕ) (high byte : ℕ) → IsDecoded operation ns (Digits (Some high)) bytes → result_ok (pair_value high byte 0) ≡ None
     → AsksNothing (fields_text operation ns (Digits (Some high)) bytes ++ byte ∷ [])
 pair_stops operation ns bytes high byte d bad =
-    bytes_stop operation ns (Digits (Some high)) bytes byte d.numbers_fit d.part_fits.0 d.part_fits.1 (part_without operation ns (Digits (Some high)) bytes d)
+    bytes_stop operation ns (Digits (Some high)) bytes byte d.worded d.numbers_fit d.part_fits.0 d.part_fits.1 (part_without operation ns (Digits (Some high)) bytes d)
     (λ field _. ap (λ (l : List ℕ). bytes_of l) (one_behind bytes high byte field) ∙ no_second bytes high byte field d.bytes_fit d.part_fits.2 bad)
 
 -- ---- texts that are the same
@@ -208,13 +207,13 @@ grows operation ns part part' bytes byte e d =
 pub number_grows : (operation : Operation) (ns bytes : List ℕ) (n : Option ℕ) (m byte : ℕ) → IsDecoded operation ns (Number n) bytes → m < 2 ^ 64 → digits_of n ++ byte ∷ [] ≡ decimal m
     → Adds operation ns (Number n) bytes byte ns bytes (Some (Number (Some m)))
 number_grows operation ns bytes n m byte d fits e =
-    grows operation ns (Number n) (Number (Some m)) bytes byte e record { numbers_fit = d.numbers_fit; bytes_fit = d.bytes_fit; part_fits = (d.part_fits.0, fits, d.part_fits.2) }
+    grows operation ns (Number n) (Number (Some m)) bytes byte e record { worded = d.worded; numbers_fit = d.numbers_fit; bytes_fit = d.bytes_fit; part_fits = (d.part_fits.0, fits, d.part_fits.2) }
 
 -- the first digit of a pair
 pub pair_begins : (operation : Operation) (ns bytes : List ℕ) (byte : ℕ) → IsDecoded operation ns (Digits None) bytes → is_hex_digit byte ≡ true
     → Adds operation ns (Digits None) bytes byte ns bytes (Some (Digits (Some byte)))
 pair_begins operation ns bytes byte d digit =
-    grows operation ns (Digits None) (Digits (Some byte)) bytes byte (none_behind bytes byte []) record { numbers_fit = d.numbers_fit; bytes_fit = d.bytes_fit; part_fits = (d.part_fits.0, d.part_fits.1, digit) }
+    grows operation ns (Digits None) (Digits (Some byte)) bytes byte (none_behind bytes byte []) record { worded = d.worded; numbers_fit = d.numbers_fit; bytes_fit = d.bytes_fit; part_fits = (d.part_fits.0, d.part_fits.1, digit) }
 
 -- `-` where no digit has come
 nothing_encoded : (bs rest : List ℕ) → bs ≡ [] → encode_lower bs ++ rest ≡ rest
@@ -224,7 +223,7 @@ nothing_encoded (b ∷ bs) rest e = absurd (cc)
 
 pub dash_comes : (operation : Operation) (ns bytes : List ℕ) → IsDecoded operation ns (Digits None) bytes → bytes ≡ [] → Adds operation ns (Digits None) bytes 45 ns bytes (Some Dash)
 dash_comes operation ns bytes d none =
-    grows operation ns (Digits None) Dash bytes 45 (none_behind bytes 45 [] ∙ nothing_encoded bytes (45 ∷ []) none) record { numbers_fit = d.numbers_fit; bytes_fit = d.bytes_fit; part_fits = (d.part_fits.0, d.part_fits.1, none) }
+    grows operation ns (Digits None) Dash bytes 45 (none_behind bytes 45 [] ∙ nothing_encoded bytes (45 ∷ []) none) record { worded = d.worded; numbers_fit = d.numbers_fit; bytes_fit = d.bytes_fit; part_fits = (d.part_fits.0, d.part_fits.1, none) }
 
 -- ---- the field behind a number
 
@@ -233,11 +232,11 @@ unfolding encode_with
 behind_text operation count part (inl h) = ap (λ (p : Part). part_text p []) h.1
 behind_text operation count part (inr h) = ap (λ (p : Part). part_text p []) h.2
 
-pub behind_decoded : (operation : Operation) (ns : List ℕ) (part : Part) (count : ℕ) → AllSmall ns → count ≡ length ns → IsFieldBehind operation count (Some part) → IsDecoded operation ns part []
-behind_decoded operation ns part count small e (inl h) =
-    subst (λ (p : Part). IsDecoded operation ns p []) (sym h.1) record { numbers_fit = small; bytes_fit = λ i. omega arith; part_fits = (omega (arith, h.0), tt, refl) }
-behind_decoded operation ns part count small e (inr h) =
-    subst (λ (p : Part). IsDecoded operation ns p []) (sym h.2) record { numbers_fit = small; bytes_fit = λ i. omega arith; part_fits = (omega (arith, h.0), h.1, tt) }
+pub behind_decoded : (operation : Operation) (ns : List ℕ) (part : Part) (count : ℕ) → HasWord operation (command_of operation) → AllSmall ns → count ≡ length ns → IsFieldBehind operation count (Some part) → IsDecoded operation ns part []
+behind_decoded operation ns part count worded small e (inl h) =
+    subst (λ (p : Part). IsDecoded operation ns p []) (sym h.1) record { worded = worded; numbers_fit = small; bytes_fit = λ i. omega arith; part_fits = (omega (arith, h.0), tt, refl) }
+behind_decoded operation ns part count worded small e (inr h) =
+    subst (λ (p : Part). IsDecoded operation ns p []) (sym h.2) record { worded = worded; numbers_fit = small; bytes_fit = λ i. omega arith; part_fits = (omega (arith, h.0), h.1, tt) }
 
 -- a number is whole, and the next field begins
 pub number_ends : (operation : Operation) (ns bytes : List ℕ) (n : ℕ) (part : Part) → IsDecoded operation ns (Number (Some n)) bytes → IsFieldBehind operation (length ns + 1) (Some part)
@@ -252,7 +251,7 @@ number_ends operation ns bytes n part d behind =
     ∙ ap (λ (l : List ℕ). command_of operation ++ 32 ∷ (numbers_text (ns ++ n ∷ []) ++ l)) (sym text) in
     let small : AllSmall (ns ++ n ∷ []) = All-push (λ m. m < 2 ^ 64) ns n d.numbers_fit d.part_fits.1 in
     let count : length ns + 1 ≡ length (ns ++ n ∷ []) = sym (length-append ns (n ∷ [])) in
-    let decoded = behind_decoded operation (ns ++ n ∷ []) part (length ns + 1) small count behind in (
+    let decoded = behind_decoded operation (ns ++ n ∷ []) part (length ns + 1) d.worded small count behind in (
       same_asks (fields_text operation ns (Number (Some n)) bytes ++ 32 ∷ []) (fields_text operation (ns ++ n ∷ []) part bytes) same,
       subst (λ (l : List ℕ). IsDecoded operation (ns ++ n ∷ []) part l) (sym none) decoded,
       one_longer (fields_text operation ns (Number (Some n)) bytes) (fields_text operation (ns ++ n ∷ []) part bytes) 32 same,
@@ -264,14 +263,14 @@ last_same : (field other : List ℕ) (fs : List (List ℕ)) → bytes_of field �
 last_same field other [] e = rw e refl
 last_same field other (f ∷ fs) e = refl
 
-bytes_same : (operation : Operation) (ns : List ℕ) (part part' : Part) (bytes bytes' more more' : List ℕ) → AllSmall ns → length ns ≡ numbers_of operation → has_bytes operation ≡ true
+bytes_same : (operation : Operation) (ns : List ℕ) (part part' : Part) (bytes bytes' more more' : List ℕ) → HasWord operation (command_of operation) → AllSmall ns → length ns ≡ numbers_of operation → has_bytes operation ≡ true
     → read 0 true (fields_of (part_text part bytes ++ more)) ≡ read 0 true (fields_of (part_text part' bytes' ++ more'))
     → request_of (fields_of (fields_text operation ns part bytes ++ more)) ≡ request_of (fields_of (fields_text operation ns part' bytes' ++ more'))
-bytes_same operation ns part part' bytes bytes' more more' small count has e =
-    asks operation ns part bytes more 0 small (omega arith)
+bytes_same operation ns part part' bytes bytes' more more' worded small count has e =
+    asks operation ns part bytes more 0 worded small (omega arith)
     ∙ ap (λ (p : Option (List ℕ × List ℕ)). ask operation (with_numbers ns p))
     (ap (λ (b : Bool). read 0 b (fields_of (part_text part bytes ++ more))) has ∙ e ∙ sym (ap (λ (b : Bool). read 0 b (fields_of (part_text part' bytes' ++ more'))) has))
-    ∙ sym (asks operation ns part' bytes' more' 0 small (omega arith))
+    ∙ sym (asks operation ns part' bytes' more' 0 worded small (omega arith))
 
 pair_length : (bytes : List ℕ) (v : ℕ) → length (encode_lower (bytes ++ v ∷ []) ++ []) ≡ 2 * length bytes + 2
 pair_length bytes v =
@@ -327,7 +326,7 @@ pub pair_comes : (operation : Operation) (ns bytes : List ℕ) (high byte v : �
     → Adds operation ns (Digits (Some high)) bytes byte ns (bytes ++ v ∷ []) (Some (Digits None))
 pair_comes operation ns bytes high byte v d fits is =
     let all : IsBytes (bytes ++ v ∷ []) = IsBytes-push bytes v d.bytes_fit fits in
-    let decoded : IsDecoded operation ns (Digits None) (bytes ++ v ∷ []) = record { numbers_fit = d.numbers_fit; bytes_fit = all; part_fits = (d.part_fits.0, d.part_fits.1, tt) } in
+    let decoded : IsDecoded operation ns (Digits None) (bytes ++ v ∷ []) = record { worded = d.worded; numbers_fit = d.numbers_fit; bytes_fit = all; part_fits = (d.part_fits.0, d.part_fits.1, tt) } in
     let old = text_length operation ns (Digits (Some high)) bytes in
     let new = text_length operation ns (Digits None) (bytes ++ v ∷ []) in
     let old_part = odd_length bytes high in
@@ -338,7 +337,7 @@ pair_comes operation ns bytes high byte v d fits is =
     let new_without : IsWithout 32 (encode_lower (bytes ++ v ∷ []) ++ []) = part_without operation ns (Digits None) (bytes ++ v ∷ []) decoded in (
       λ more.
           ap (λ (l : List ℕ). request_of (fields_of l)) (append_assoc (fields_text operation ns (Digits (Some high)) bytes) (byte ∷ []) more)
-          ∙ bytes_same operation ns (Digits (Some high)) (Digits None) bytes (bytes ++ v ∷ []) (byte ∷ more) more d.numbers_fit d.part_fits.0 d.part_fits.1
+          ∙ bytes_same operation ns (Digits (Some high)) (Digits None) bytes (bytes ++ v ∷ []) (byte ∷ more) more d.worded d.numbers_fit d.part_fits.0 d.part_fits.1
           (pair_read bytes high byte v more (slice_split_has 32 more) old_without new_without d.bytes_fit fits d.part_fits.2 is),
       decoded,
       omega arith,
@@ -346,20 +345,20 @@ pair_comes operation ns bytes high byte v d fits is =
 
 -- ---- the request of a whole line
 
-asks_whole : (operation : Operation) (ns : List ℕ) (part : Part) (bytes : List ℕ) (k : ℕ) (ms bs : List ℕ) → AllSmall ns → length ns + k ≡ numbers_of operation
-    → read k (has_bytes operation) (fields_of (part_text part bytes)) ≡ Some (ms, bs) → request_of (fields_of (fields_text operation ns part bytes)) ≡ Some (request_with operation (ns ++ ms) bs)
-asks_whole operation ns part bytes k ms bs small e h =
+asks_whole : (operation : Operation) (ns : List ℕ) (part : Part) (bytes : List ℕ) (k : ℕ) (ms bs : List ℕ) → HasWord operation (command_of operation) → AllSmall ns → length ns + k ≡ numbers_of operation
+    → read k (has_bytes operation) (fields_of (part_text part bytes)) ≡ Some (ms, bs) → request_of (fields_of (fields_text operation ns part bytes)) ≡ request_with operation (ns ++ ms) bs
+asks_whole operation ns part bytes k ms bs worded small e h =
     ap (λ (l : List ℕ). request_of (fields_of l)) (sym (append-nil (fields_text operation ns part bytes)))
-    ∙ asks operation ns part bytes [] k small e
+    ∙ asks operation ns part bytes [] k worded small e
     ∙ ap (λ (l : List ℕ). ask operation (with_numbers ns (read k (has_bytes operation) (fields_of l)))) (append-nil (part_text part bytes))
     ∙ ap (λ (p : Option (List ℕ × List ℕ)). ask operation (with_numbers ns p)) h
     ∙ ap (λ (p : Option (List ℕ × List ℕ)). ask operation p) (with_numbers-some ns ms bs)
 
-asks_none : (operation : Operation) (ns : List ℕ) (part : Part) (bytes : List ℕ) (k : ℕ) → AllSmall ns → length ns + k ≡ numbers_of operation
+asks_none : (operation : Operation) (ns : List ℕ) (part : Part) (bytes : List ℕ) (k : ℕ) → HasWord operation (command_of operation) → AllSmall ns → length ns + k ≡ numbers_of operation
     → read k (has_bytes operation) (fields_of (part_text part bytes)) ≡ None → request_of (fields_of (fields_text operation ns part bytes)) ≡ None
-asks_none operation ns part bytes k small e h =
+asks_none operation ns part bytes k worded small e h =
     ap (λ (l : List ℕ). request_of (fields_of l)) (sym (append-nil (fields_text operation ns part bytes)))
-    ∙ asks operation ns part bytes [] k small e
+    ∙ asks operation ns part bytes [] k worded small e
     ∙ ap (λ (l : List ℕ). ask operation (with_numbers ns (read k (has_bytes operation) (fields_of l)))) (append-nil (part_text part bytes))
     ∙ ap (λ (p : Option (List ℕ × List ℕ)). ask operation (with_numbers ns p)) h
     ∙ ap (λ (p : Option (List ℕ × List ℕ)). ask operation p) (with_numbers-none ns)
@@ -369,9 +368,9 @@ one_field operation ns part bytes d = fields_of-one (part_text part bytes) (part
 
 -- the last number is whole, and there are no bytes
 pub numbers_whole : (operation : Operation) (ns bytes : List ℕ) (n : ℕ) → IsDecoded operation ns (Number (Some n)) bytes → numbers_of operation ≡ length ns + 1 → has_bytes operation ≡ false
-    → request_of (fields_of (fields_text operation ns (Number (Some n)) bytes)) ≡ Some (request_with operation (ns ++ n ∷ []) [])
+    → request_of (fields_of (fields_text operation ns (Number (Some n)) bytes)) ≡ request_with operation (ns ++ n ∷ []) []
 numbers_whole operation ns bytes n d last none =
-    asks_whole operation ns (Number (Some n)) bytes 1 (n ∷ []) [] d.numbers_fit (omega arith)
+    asks_whole operation ns (Number (Some n)) bytes 1 (n ∷ []) [] d.worded d.numbers_fit (omega arith)
     (ap (λ (fs : List (List ℕ)). read 1 (has_bytes operation) fs) (one_field operation ns (Number (Some n)) bytes d)
     ∙ ap (λ (b : Bool). read 1 b (decimal n ∷ [])) none
     ∙ rw (number_of-decimal n d.part_fits.1) refl)
@@ -384,7 +383,7 @@ read_short (suc k) bytes field h e =
     ∙ ap (λ (p : Option (List ℕ × List ℕ)). with_number (number_of field) p) e
     ∙ with_number-none (number_of field)
 
-read_nothing : (k : ℕ) (bytes : Bool) → (0 < k) ⊎ (bytes ≡ true) → read k bytes [] ≡ None
+pub read_nothing : (k : ℕ) (bytes : Bool) → (0 < k) ⊎ (bytes ≡ true) → read k bytes [] ≡ None
 read_nothing zero bytes (inl h) = absurd (omega arith)
 read_nothing zero bytes (inr h) = rw h refl
 read_nothing (suc k) bytes h = refl
@@ -394,7 +393,7 @@ pub field_lacks : (operation : Operation) (ns bytes : List ℕ) (n : ℕ) (part 
     → request_of (fields_of (fields_text operation ns (Number (Some n)) bytes)) ≡ None
 field_lacks operation ns bytes n part d behind =
     let left = to_come ns (numbers_of operation) d.part_fits.0 in
-    asks_none operation ns (Number (Some n)) bytes (numbers_of operation - length ns) d.numbers_fit left.0
+    asks_none operation ns (Number (Some n)) bytes (numbers_of operation - length ns) d.worded d.numbers_fit left.0
     (ap (λ (fs : List (List ℕ)). read (numbers_of operation - length ns) (has_bytes operation) fs) (one_field operation ns (Number (Some n)) bytes d)
     ∙ read_short (numbers_of operation - length ns) (has_bytes operation) (decimal n) left.1 (read_nothing (numbers_of operation - length ns - 1) (has_bytes operation) (lacks behind)))
   where
@@ -405,33 +404,33 @@ field_lacks operation ns bytes n part d behind =
 pub number_lacks : (operation : Operation) (ns bytes : List ℕ) → IsDecoded operation ns (Number None) bytes → request_of (fields_of (fields_text operation ns (Number None) bytes)) ≡ None
 number_lacks operation ns bytes d =
     let left = to_come ns (numbers_of operation) d.part_fits.0 in
-    asks_none operation ns (Number None) bytes (numbers_of operation - length ns) d.numbers_fit left.0
+    asks_none operation ns (Number None) bytes (numbers_of operation - length ns) d.worded d.numbers_fit left.0
     (ap (λ (fs : List (List ℕ)). read (numbers_of operation - length ns) (has_bytes operation) fs) (one_field operation ns (Number None) bytes d)
     ∙ read_some (numbers_of operation - length ns) (has_bytes operation) [] [] left.1 refl)
 
 bytes_whole : (operation : Operation) (ns : List ℕ) (part : Part) (bytes bs : List ℕ) → IsDecoded operation ns part bytes → length ns ≡ numbers_of operation → has_bytes operation ≡ true
-    → bytes_of (part_text part bytes) ≡ Some bs → request_of (fields_of (fields_text operation ns part bytes)) ≡ Some (request_with operation ns bs)
+    → bytes_of (part_text part bytes) ≡ Some bs → request_of (fields_of (fields_text operation ns part bytes)) ≡ request_with operation ns bs
 bytes_whole operation ns part bytes bs d count has h =
-    asks_whole operation ns part bytes 0 [] bs d.numbers_fit (omega arith)
+    asks_whole operation ns part bytes 0 [] bs d.worded d.numbers_fit (omega arith)
     (ap (λ (fs : List (List ℕ)). read 0 (has_bytes operation) fs) (one_field operation ns part bytes d)
     ∙ ap (λ (b : Bool). read 0 b (part_text part bytes ∷ [])) has
     ∙ rw h refl)
-    ∙ ap (λ (l : List ℕ). Some (request_with operation l bs)) (append-nil ns)
+    ∙ ap (λ (l : List ℕ). request_with operation l bs) (append-nil ns)
 
 bytes_none : (operation : Operation) (ns : List ℕ) (part : Part) (bytes : List ℕ) → IsDecoded operation ns part bytes → length ns ≡ numbers_of operation → has_bytes operation ≡ true
     → bytes_of (part_text part bytes) ≡ None → request_of (fields_of (fields_text operation ns part bytes)) ≡ None
 bytes_none operation ns part bytes d count has h =
-    asks_none operation ns part bytes 0 d.numbers_fit (omega arith)
+    asks_none operation ns part bytes 0 d.worded d.numbers_fit (omega arith)
     (ap (λ (fs : List (List ℕ)). read 0 (has_bytes operation) fs) (one_field operation ns part bytes d)
     ∙ ap (λ (b : Bool). read 0 b (part_text part bytes ∷ [])) has
     ∙ rw h refl)
 
-pub dash_whole : (operation : Operation) (ns bytes : List ℕ) → IsDecoded operation ns Dash bytes → request_of (fields_of (fields_text operation ns Dash bytes)) ≡ Some (request_with operation ns bytes)
+pub dash_whole : (operation : Operation) (ns bytes : List ℕ) → IsDecoded operation ns Dash bytes → request_of (fields_of (fields_text operation ns Dash bytes)) ≡ request_with operation ns bytes
 dash_whole operation ns bytes d =
-    bytes_whole operation ns Dash bytes [] d d.part_fits.0 d.part_fits.1 refl ∙ ap (λ (l : List ℕ). Some (request_with operation ns l)) (sym d.part_fits.2)
+    bytes_whole operation ns Dash bytes [] d d.part_fits.0 d.part_fits.1 refl ∙ ap (λ (l : List ℕ). request_with operation ns l) (sym d.part_fits.2)
 
 pub pairs_whole : (operation : Operation) (ns bytes : List ℕ) → IsDecoded operation ns (Digits None) bytes → 0 < length bytes
-    → request_of (fields_of (fields_text operation ns (Digits None) bytes)) ≡ Some (request_with operation ns bytes)
+    → request_of (fields_of (fields_text operation ns (Digits None) bytes)) ≡ request_with operation ns bytes
 pairs_whole operation ns [] d some_bytes = absurd (omega arith)
 pairs_whole operation ns (b ∷ bytes) d some_bytes = bytes_whole operation ns (Digits None) (b ∷ bytes) (b ∷ bytes) d d.part_fits.0 d.part_fits.1 (whole_pairs b bytes d.bytes_fit)
 
@@ -517,11 +516,10 @@ unfolding fields_text
 of_text operation part h = ap (λ (l : List ℕ). command_of operation ++ 32 ∷ l) (behind_text operation 0 part h)
 
 -- one that has no fields may have none
-pub bare_stops : (operation : Operation) → numbers_of operation ≡ 0 → has_bytes operation ≡ false → AsksNothing (command_of operation ++ 32 ∷ [])
-bare_stops operation none no_bytes more =
+pub bare_stops : (operation : Operation) → HasWord operation (command_of operation) → numbers_of operation ≡ 0 → has_bytes operation ≡ false → AsksNothing (command_of operation ++ 32 ∷ [])
+bare_stops operation worded none no_bytes more =
     ap (λ (l : List ℕ). request_of (fields_of l)) (append_assoc (command_of operation) (32 ∷ []) more)
-    ∙ command_cut operation more
-    ∙ command_reads operation (fields_of more)
+    ∙ command_cut operation more worded
     ∙ ap (λ (n : ℕ). ask operation (read n (has_bytes operation) (fields_of more))) none
     ∙ ap (λ (b : Bool). ask operation (read_last b (fields_of more))) no_bytes
     ∙ ap (λ (p : Option (List ℕ × List ℕ)). ask operation p) (some_field more)
@@ -554,13 +552,13 @@ lacks_by operation ns part bytes n' n count (Some p) d e k c behind there =
     (field_lacks operation ns bytes n p (subst (λ (q : Part). IsDecoded operation ns q bytes) is d) (subst (λ (m : ℕ). IsFieldBehind operation (m + 1) (Some p)) c behind))
 
 pub whole_by : (operation : Operation) (ns : List ℕ) (part : Part) (bytes : List ℕ) (n' : Option ℕ) (n count : ℕ) (next : Option Part) → IsDecoded operation ns part bytes → part ≡ Number n' → n' ≡ Some n → count ≡ length ns
-    → IsFieldBehind operation (count + 1) next → is_some next ≡ false → request_of (fields_of (fields_text operation ns part bytes)) ≡ Some (request_with operation (ns ++ n ∷ []) bytes)
+    → IsFieldBehind operation (count + 1) next → is_some next ≡ false → request_of (fields_of (fields_text operation ns part bytes)) ≡ request_with operation (ns ++ n ∷ []) bytes
 whole_by operation ns part bytes n' n count (Some p) d e k c behind there = absurd (cc)
 whole_by operation ns part bytes n' n count None d e k c behind there =
     let is : part ≡ Number (Some n) = e ∙ ap (λ (m : Option ℕ). Number m) k in
     let decoded : IsDecoded operation ns (Number (Some n)) bytes = subst (λ (q : Part). IsDecoded operation ns q bytes) is d in
-    subst (λ (q : Part). request_of (fields_of (fields_text operation ns q bytes)) ≡ Some (request_with operation (ns ++ n ∷ []) bytes)) (sym is)
-    (numbers_whole operation ns bytes n decoded (omega (arith, behind.0)) behind.1 ∙ ap (λ (l : List ℕ). Some (request_with operation (ns ++ n ∷ []) l)) (sym decoded.part_fits.2))
+    subst (λ (q : Part). request_of (fields_of (fields_text operation ns q bytes)) ≡ request_with operation (ns ++ n ∷ []) bytes) (sym is)
+    (numbers_whole operation ns bytes n decoded (omega (arith, behind.0)) behind.1 ∙ ap (λ (l : List ℕ). request_with operation (ns ++ n ∷ []) l) (sym decoded.part_fits.2))
 
 pub part_asks : (operation : Operation) (ns : List ℕ) (part part' : Part) (bytes : List ℕ) (r : Option Request) → part ≡ part' → IsDecoded operation ns part bytes
     → (IsDecoded operation ns part' bytes → request_of (fields_of (fields_text operation ns part' bytes)) ≡ r) → request_of (fields_of (fields_text operation ns part bytes)) ≡ r

@@ -22,7 +22,7 @@ digits_come operation ns piece n n' count d fits within e =
         asks = same_asks (text ++ take count piece) text' same;
         longer = ap (λ (l : List ℕ). length l) (sym same) ∙ length-append text (take count piece) ∙ ap (λ (m : ℕ). length text + m) (length-take-le count piece within);
       };
-      decoded = record { numbers_fit = d.numbers_fit; bytes_fit = d.bytes_fit; part_fits = (d.part_fits.0, fits, d.part_fits.2) };
+      decoded = record { worded = d.worded; numbers_fit = d.numbers_fit; bytes_fit = d.bytes_fit; part_fits = (d.part_fits.0, fits, d.part_fits.2) };
     }
 
 -- and the space behind them

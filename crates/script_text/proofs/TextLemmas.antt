@@ -1,35 +1,26 @@
 -- What a text says as a line, however it goes on.
-use Rattle.std.proofs.Common.{◌≡◌, ◌≢◌, ◌∙◌, ◌⊎◌, inl, inr, ℕ, ◌≤◌, ◌==◌, false, List, [], ◌∷◌, ◌++◌, length, None, refl, sym, ap, subst, arith, append_assoc, length-append}
+use Rattle.std.proofs.Common.{◌≡◌, ◌≢◌, ◌∙◌, ◌⊎◌, inl, inr, ℕ, ◌≤◌, ◌==◌, nat_le, true, false, List, [], ◌∷◌, ◌++◌, length, refl, sym, ap, subst, arith, append_assoc, length-append}
 use Rattle.std.specs.List.{All}
 use Rattle.std.proofs.lemmas.Bool.{ne_eqb}
+use Rattle.std.proofs.lemmas.Bool.Decides.{nat_tests}
 use Rattle.std.proofs.lemmas.List.Elements.{All-head, All-tail, All-push}
 use Rattle.request_form.specs.declared.operation.Operation.{Operation}
-use Rattle.request_form.specs.declared.operation.Operation.TheVariants as Operations
-use Rattle.script_text.specs.Requests.{forms, request_in, request_of}
+use Rattle.request_form.specs.Operations.{HasWord, operation_of_word}
+use Rattle.request_form.proofs.Rows.{each}
+use Rattle.script_text.specs.Requests.{request_in, request_of}
 use Rattle.script_text.specs.Lines.{fields_of}
 use Rattle.script_text.specs.Begun.{IsWithout, IsLetter}
-use Rattle.script_text.specs.Commands.{command_of}
-use Rattle.script_text.specs.Decoded.{AsksNothing}
+use Rattle.script_text.specs.Decoded.{command_of, AsksNothing}
 use Rattle.items.proofs.LinesHeard.{slice_split_has, split_behind}
-use Rattle.script_text.proofs.FieldLemmas.{fields_of-cut, fields_of-one, letters_solid, solid_without, command_letters, no_command}
+use Rattle.script_text.proofs.FieldLemmas.{fields_of-cut, fields_of-one, letters_solid, solid_without, command_letters, no_command, is_command}
 
 -- ---- words
 
 command_short : (operation : Operation) → length (command_of operation) ≤ 12
-command_short Operations.Create = omega arith
-command_short Operations.Append = omega arith
-command_short Operations.Write = omega arith
-command_short Operations.StartAppend = omega arith
-command_short Operations.StartWrite = omega arith
-command_short Operations.Finish = omega arith
-command_short Operations.Read = omega arith
-command_short Operations.Recent = omega arith
-command_short Operations.Size = omega arith
-command_short Operations.Sync = omega arith
-command_short Operations.Status = omega arith
-command_short Operations.Branch = omega arith
-command_short Operations.Repair = omega arith
-command_short Operations.Quit = omega arith
+command_short operation = few (length (command_of operation)) (each (λ o. nat_le (length (command_of o)) 12) refl operation)
+  where
+    few : (n : ℕ) → nat_le n 12 ≡ true → n ≤ 12
+    few n h = grind (arith, nat_tests)
 
 letter_inside : (front : List ℕ) (b : ℕ) (back : List ℕ) → All IsLetter (front ++ b ∷ back) → IsLetter b
 letter_inside [] b back h = All-head IsLetter b back h
@@ -44,10 +35,12 @@ word_stops word byte letters other why more =
     ap (λ (fs : List (List ℕ)). request_of fs) (split_behind 32 (word ++ byte ∷ []) more first joined)
     ∙ no_command text first.others (no why)
   where
-    no : ((IsLetter byte → ⊥) ⊎ (12 ≤ length word)) → (operation : Operation) → ((word ++ byte ∷ []) ++ (slice_split_has 32 more).first) ≢ command_of operation
-    no (inl bad) operation e =
+    no : ((IsLetter byte → ⊥) ⊎ (12 ≤ length word)) → (operation : Operation) → HasWord operation ((word ++ byte ∷ []) ++ (slice_split_has 32 more).first) → ⊥
+    no (inl bad) operation h =
+        let e = is_command operation ((word ++ byte ∷ []) ++ (slice_split_has 32 more).first) h in
         bad (letter_inside word byte (slice_split_has 32 more).first (subst (λ (l : List ℕ). All IsLetter l) (sym (sym (append_assoc word (byte ∷ []) (slice_split_has 32 more).first) ∙ e)) (command_letters operation)))
-    no (inr long) operation e =
+    no (inr long) operation h =
+        let e = is_command operation ((word ++ byte ∷ []) ++ (slice_split_has 32 more).first) h in
         let a = length-append (word ++ byte ∷ []) (slice_split_has 32 more).first in
         let b = length-append word (byte ∷ []) in
         let c : length ((word ++ byte ∷ []) ++ (slice_split_has 32 more).first) ≡ length (command_of operation) = ap (λ (l : List ℕ). length l) e in
@@ -55,29 +48,12 @@ word_stops word byte letters other why more =
         omega arith
 
 -- a space behind what is no command
-pub unknown_stops : (word : List ℕ) → All IsLetter word → ((operation : Operation) → word ≢ command_of operation) → AsksNothing (word ++ 32 ∷ [])
+pub unknown_stops : (word : List ℕ) → All IsLetter word → ((operation : Operation) → HasWord operation word → ⊥) → AsksNothing (word ++ 32 ∷ [])
 unknown_stops word letters unknown more =
     ap (λ (t : List ℕ). request_of (fields_of t)) (append_assoc word (32 ∷ []) more)
     ∙ ap (λ (fs : List (List ℕ)). request_of fs) (fields_of-cut word more (solid_without word (letters_solid word letters)))
     ∙ no_command word (fields_of more) unknown
 
--- a command that may not stand alone
-pub not_bare : (operation : Operation) → operation ≢ Operations.Create → operation ≢ Operations.Quit → request_in forms (command_of operation) [] ≡ None
-not_bare Operations.Create a b = absurd (a refl)
-not_bare Operations.Append a b = refl
-not_bare Operations.Write a b = refl
-not_bare Operations.StartAppend a b = refl
-not_bare Operations.StartWrite a b = refl
-not_bare Operations.Finish a b = refl
-not_bare Operations.Read a b = refl
-not_bare Operations.Recent a b = refl
-not_bare Operations.Size a b = refl
-not_bare Operations.Sync a b = refl
-not_bare Operations.Status a b = refl
-not_bare Operations.Branch a b = refl
-not_bare Operations.Repair a b = refl
-not_bare Operations.Quit a b = absurd (b refl)
-
 -- a line that is no more than a word
-pub word_asks : (word : List ℕ) → All IsLetter word → request_of (fields_of word) ≡ request_in forms word []
+pub word_asks : (word : List ℕ) → All IsLetter word → request_of (fields_of word) ≡ request_in (operation_of_word word) []
 word_asks word letters = ap (λ (fs : List (List ℕ)). request_of fs) (fields_of-one word (solid_without word (letters_solid word letters)))

@@ -1,17 +1,16 @@
 -- What is kept of a command's fields, and the text in whose place it stands.
-use Rattle.std.specs.Prelude.{◌≡◌, ◌≢◌, ◌⊎◌, ◌<◌, ◌≤◌, ◌+◌, ◌^◌, ℕ, Bool, true, false, List, [], ◌∷◌, ◌++◌, length, take, Option, Some, None, Ok, codes}
+use Rattle.std.specs.Prelude.{◌≡◌, ◌≢◌, ◌⊎◌, ◌<◌, ◌≤◌, ◌+◌, ◌^◌, ℕ, Bool, true, false, List, [], ◌∷◌, ◌++◌, length, take, Option, Some, None, Ok, codes, unwrap_or}
 use Rattle.std.specs.List.{All}
 use Rattle.std.specs.Option.{option_to_list, IfSome}
 use Rattle.std.specs.Fmt.{decimal}
 use Rattle.hex.specs.Hex.{encode_lower, decode_of, is_hex_digit, IsBytes}
 use Rattle.request_form.specs.declared.operation.Operation.{Operation}
-use Rattle.request_form.specs.Operations.{numbers_of, has_bytes}
+use Rattle.request_form.specs.Operations.{word_of, numbers_of, has_bytes, HasWord}
 use Rattle.script_text.specs.declared.fields.Part.{Part}
 use Rattle.script_text.specs.declared.fields.Part.TheVariants.{Number, Dash, Digits}
 use Rattle.script_text.specs.Fields.{number_of}
 use Rattle.script_text.specs.Requests.{request_of}
 use Rattle.script_text.specs.Lines.{fields_of}
-use Rattle.script_text.specs.Commands.{command_of}
 
 -- however a text goes on behind the one or the other, it spells the same request, or neither spells one
 abbrev pub AsksAs : List ℕ → List ℕ → Type 0
@@ -41,6 +40,10 @@ part_text (Number n) bytes = digits_of n
 part_text Dash bytes = codes "-"
 part_text (Digits high) bytes = encode_lower bytes ++ option_to_list high
 
+-- an operation's command, where it has one
+abbrev pub command_of : Operation → List ℕ
+command_of operation = unwrap_or (word_of operation) []
+
 -- what has come of a line, up to the field that has begun
 unfoldable pub fields_text : Operation → List ℕ → Part → List ℕ → List ℕ
 fields_text operation numbers part bytes = command_of operation ++ 32 ∷ (numbers_text numbers ++ part_text part bytes)
@@ -52,6 +55,7 @@ IsPart operation numbers Dash bytes = (length numbers ≡ numbers_of operation) 
 IsPart operation numbers (Digits high) bytes = (length numbers ≡ numbers_of operation) × (has_bytes operation ≡ true) × IfSome high (λ d. is_hex_digit d ≡ true)
 
 pub record IsDecoded (operation : Operation) (numbers : List ℕ) (part : Part) (bytes : List ℕ) : Type 0 where
+  pub worded : HasWord operation (command_of operation)
   pub numbers_fit : All (λ n. n < 2 ^ 64) numbers
   pub bytes_fit : IsBytes bytes
   pub part_fits : IsPart operation numbers part bytes

@@ -2,6 +2,5 @@ pub mod Fields
 pub mod Requests
 pub mod Lines
 pub mod Said
-pub mod Commands
 pub mod Decoded
 pub mod Begun

@@ -5,13 +5,12 @@ ghost use Rattle.std.specs.List.{AllPass};
 ghost use Rattle.std.specs.Fmt.{decimal};
 ghost use Rattle.std.specs.Result.{result_ok};
 ghost use Rattle.hex.specs.Hex.{pair_value, hex_digit_value, is_hex_digit, decode_of};
-ghost use Rattle.request_form.specs.Operations.{numbers_of};
+ghost use Rattle.request_form.specs.Operations.{numbers_of, HasWord};
 ghost use Rattle.script_text.specs.Requests.{request_of};
 ghost use Rattle.items.specs.Text.{Takes};
 ghost use Rattle.script_text.specs.Lines.{fields_of, script_lines};
 ghost use Rattle.script_text.specs.Begun.{IsPlain};
-ghost use Rattle.script_text.specs.Commands.{command_of};
-ghost use Rattle.script_text.specs.Decoded.{digits_of, SpellsNoNumber, IsDecoded, IsFieldBehind, BeginsPair};
+ghost use Rattle.script_text.specs.Decoded.{command_of, digits_of, SpellsNoNumber, IsDecoded, IsFieldBehind, BeginsPair};
 ghost use Rattle.script_text.specs.Decoded.{EndsNumber, Adds, AddsByte, AsksNothing, Decodes, TakesRun, TakesNumber};
 ghost use Rattle.script_text.specs.declared.fields.Part.TheVariants.{Number};
 
@@ -326,6 +325,7 @@ fn next_part(
 impl Fields {
     /// The fields of an operation, of which nothing has come, or none where it has no fields.
     pub fn of(alloc: Global, operation: Operation) -> Option<Fields>
+        requires { HasWord operation (command_of operation) }
         ensures { MatchOption result
             (AsksNothing (command_of operation ++ 32 ∷ []))
             (λ text. text ≡ command_of operation ++ 32 ∷ []) }
@@ -428,15 +428,15 @@ impl Fields {
                     return None;
                 }
                 numbers.push(number);
-                Some(operation.request(numbers.as_slice(), Bytes::of(bytes)))
+                operation.request(numbers.as_slice(), Bytes::of(bytes))
             }
             Part::Number(None) => None,
-            Part::Dash => Some(operation.request(numbers.as_slice(), Bytes::of(bytes))),
+            Part::Dash => operation.request(numbers.as_slice(), Bytes::of(bytes)),
             Part::Digits(None) => {
                 if bytes.is_empty() {
                     return None;
                 }
-                Some(operation.request(numbers.as_slice(), Bytes::of(bytes)))
+                operation.request(numbers.as_slice(), Bytes::of(bytes))
             }
             Part::Digits(Some(_)) => None,
         }

@@ -6,7 +6,6 @@
 
 ghost use Rattle.std.specs.Prelude.{◌≡◌};
 
-mod command;
 mod dialect;
 mod fields;
 mod line;

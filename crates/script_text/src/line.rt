@@ -1,17 +1,16 @@
-ghost use Rattle.std.specs.Prelude.{◌≡◌, ◌⊎◌, ◌<◌, ◌≤◌, ◌∷◌, ◌++◌, [], length, take, slice_index, IfOk, MatchOption};
+ghost use Rattle.std.specs.Prelude.{◌≡◌, ◌⊎◌, ◌<◌, ◌≤◌, ◌∷◌, ◌++◌, [], length, take, slice_index, IfOk, MatchOption, Some};
 ghost use Rattle.std.specs.Bool.{MatchBool};
 ghost use Rattle.arrayvec.specs.ArrayVec.{array_vec_len};
 ghost use Rattle.std.specs.List.{All};
 ghost use Rattle.items.specs.Text.{Takes};
-ghost use Rattle.script_text.specs.Requests.{forms, request_in, request_of};
-ghost use Rattle.script_text.specs.Commands.{command_of};
+ghost use Rattle.script_text.specs.Requests.{request_in, request_of};
 ghost use Rattle.script_text.specs.Lines.{fields_of, heard_as, script_lines};
 ghost use Rattle.script_text.specs.Decoded.{AsksNothing};
 ghost use Rattle.script_text.specs.Begun.{IsLetter, begun_text, IsBegun};
 
-use crate::command::operation_of;
 use crate::fields::Fields;
 use arrayvec::ArrayVec;
+use blob_model::Bytes;
 use items::lines::Body;
 use request_form::{Fault, Heard, NoMemory, Operation, Request};
 use std::alloc::Global;
@@ -43,7 +42,7 @@ fn asked(alloc: Global, word: &[u8]) -> Option<Fields>
         (AsksNothing (word.now ++ 32 ∷ []))
         (λ text. text ≡ word.now ++ 32 ∷ []) }
 {
-    Fields::of(alloc, operation_of(word)?)
+    Fields::of(alloc, Operation::of_word(word)?)
 }
 
 // Whether a byte is one more letter of a command, for which there is room.
@@ -121,24 +120,23 @@ fn take_all(alloc: Global, begun: &mut Begun, piece: &[u8]) -> Result<Option<usi
 }
 
 // The request of a command without fields, if it makes one.
-fn bare(operation: Operation) -> Option<Request>
-    ensures { result ≡ request_in forms (command_of operation) [] }
+fn bare(alloc: Global, operation: Operation) -> Option<Request>
+    ensures { result ≡ request_in (Some operation) [] }
 {
-    match operation {
-        Operation::Create => Some(Request::Create),
-        Operation::Quit => Some(Request::Quit),
-        _ => None,
+    if operation.numbers() > 0 || operation.has_bytes() {
+        return None;
     }
+    operation.request(&[], Bytes::of(Vec::new(alloc)))
 }
 
 // The request of a line that is no more than a word, if it spells one.
-fn word_request(word: &[u8]) -> Option<Request>
+fn word_request(alloc: Global, word: &[u8]) -> Option<Request>
     requires { All IsLetter word.now }
     ensures { result ≡ request_of (fields_of word.now) }
 {
-    match operation_of(word) {
+    match Operation::of_word(word) {
         None => None,
-        Some(operation) => bare(operation),
+        Some(operation) => bare(alloc, operation),
     }
 }
 
@@ -153,12 +151,12 @@ fn heard(request: Option<Request>) -> Heard
 }
 
 // The request that a line spells, if it spells one, now that it has ended.
-fn request(begun: Begun) -> Option<Request>
+fn request(alloc: Global, begun: Begun) -> Option<Request>
     requires { IsBegun begun }
     ensures { result ≡ request_of (fields_of (begun_text begun)) }
 {
     match begun {
-        Begun::Word(word) => word_request(word.as_slice()),
+        Begun::Word(word) => word_request(alloc, word.as_slice()),
         Begun::Asked(fields) => fields.into_request(),
     }
 }
@@ -207,8 +205,8 @@ impl Body for Line {
         take_all(alloc, &mut self.begun, piece)
     }
 
-    fn into_item(self, _: Global) -> Result<Heard, NoMemory> {
-        Ok(heard(request(self.begun)))
+    fn into_item(self, alloc: Global) -> Result<Heard, NoMemory> {
+        Ok(heard(request(alloc, self.begun)))
     }
 
     fn bad() -> Heard {

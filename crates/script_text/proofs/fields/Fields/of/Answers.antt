@@ -4,7 +4,7 @@ use Rattle.script_text.proofs.DecodedLemmas.{bare_stops, of_text}
 use Rattle.script_text.proofs.fields.Fields.of.Goals as goal
 
 pub returns-in_err-part : goal.returns-in_err-part
-returns-in_err-part c = rw c.from_residual.ensures (bare_stops c.args.operation c.in_err-part.ensures.0 c.in_err-part.ensures.1)
+returns-in_err-part c = rw c.from_residual.ensures (bare_stops c.args.operation c.requires c.in_err-part.ensures.0 c.in_err-part.ensures.1)
 
 pub returns : goal.returns
 returns c =
