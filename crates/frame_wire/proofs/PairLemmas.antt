@@ -1,5 +1,5 @@
 -- Pairs of numbers as fields, and what they ask for.
-use Rattle.std.proofs.Common.{◌≡◌, ◌∙◌, ℕ, zero, suc, ◌+◌, ◌-◌, ◌*◌, ◌/◌, ◌%◌, ◌^◌, ◌<◌, ◌≤◌, ◌==◌, ◌&&◌, nat_le, Bool, cond, not, true, false, true≢false, List, [], ◌∷◌, ◌++◌, length, drop, Option, Some, None, refl, sym, ap, subst, arith, append_assoc, append-nil, length-append}
+use Rattle.std.proofs.Common.{◌≡◌, ◌∙◌, ℕ, zero, suc, ◌+◌, ◌-◌, ◌*◌, ◌/◌, ◌%◌, ◌^◌, ◌<◌, ◌≤◌, ◌==◌, ◌&&◌, nat_le, Bool, cond, true, false, true≢false, List, [], ◌∷◌, ◌++◌, length, drop, Option, Some, None, refl, sym, ap, subst, arith, rules, append_assoc, append-nil, length-append}
 use Rattle.std.specs.List.{All}
 use Rattle.std.proofs.lemmas.List.{drop_at}
 use Rattle.std.proofs.lemmas.List.Elements.{All-head, All-tail}
@@ -8,12 +8,11 @@ use Rattle.std.proofs.lemmas.Bool.Decides.{nat_tests}
 use Rattle.byteorder.specs.Endian.{big_number}
 use Rattle.request_form.specs.declared.form.Request.TheVariants.{ReadMany}
 use Rattle.request_form.specs.declared.operation.Operation.{Operation}
-use Rattle.request_form.specs.Operations.{number_of, since_of, numbers_of, has_bytes, has_ranges, is_since, IsSince, request_with}
-use Rattle.request_form.proofs.Rows.{each, off, since_from, since_test}
+use Rattle.request_form.specs.Operations.{number_of, since_of, numbers_of, has_bytes, has_ranges, IsSince, request_with}
 use Rattle.frame_wire.specs.Requests.{number_at, numbers_in, pairs_of, holds_ranges, fits_by, fits, made, request_of}
 use Rattle.frame_wire.specs.Said.{field, pair_fields}
 use Rattle.frame_wire.specs.Decoded.{IsSmallPair, IsSecond, pairs_fit, IsPaired}
-use Rattle.frame_wire.proofs.RequestLemmas.{field-length, field-number, known, not_true}
+use Rattle.frame_wire.proofs.RequestLemmas.{field-length, field-number, known}
 
 pub pair_fields-length : (ps : List (ℕ × ℕ)) → length (pair_fields ps) ≡ 16 * length ps
 pair_fields-length [] = refl
@@ -92,18 +91,8 @@ second_fits operation n second = pairs_by (has_bytes operation) (has_ranges oper
 -- ---- the operations since version 2
 
 -- what frames have since version 2, and not before, is one of them
-second_test : (later first : Bool) (is : Bool) → cond later (cond first true is) true ≡ true → later ≡ true → first ≡ false → is ≡ true
-second_test true true is h e f = absurd (true≢false f)
-second_test true false is h e f = h
-second_test false first is h e f = absurd (true≢false (sym e))
-
 pub second_is : (operation : Operation) → IsSince (since_of operation) 2 → (IsSince (since_of operation) 1 → ⊥) → IsSecond operation
-second_is operation later first =
-    let all = each (λ o. cond (is_since (since_of o) 2) (cond (is_since (since_of o) 1) true (numbers_of o == 2 && not (has_bytes o))) true) refl operation in
-    let is = second_test (is_since (since_of operation) 2) (is_since (since_of operation) 1) (numbers_of operation == 2 && not (has_bytes operation)) all
-    (since_test (since_of operation) 2 later) (off (is_since (since_of operation) 1) (λ e. first (since_from (since_of operation) 1 e))) in
-    let parts = and_parts (numbers_of operation == 2) (not (has_bytes operation)) is in
-    record { since = later; numbers = is_equal (numbers_of operation) 2 parts.0; no_bytes = not_true (has_bytes operation) parts.1 }
+second_is operation later first = record { since = later; numbers = search rules; no_bytes = search rules }
 
 -- ---- what was decoded, once nothing more is to come
 

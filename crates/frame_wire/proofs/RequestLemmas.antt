@@ -1,5 +1,5 @@
 -- What operations and their fields ask for.
-use Rattle.std.proofs.Common.{◌≡◌, ◌∙◌, ℕ, suc, ◌+◌, ◌-◌, ◌*◌, ◌/◌, ◌^◌, ◌<◌, ◌≤◌, ◌==◌, nat_le, Bool, cond, not, true, false, true≢false, List, [], ◌∷◌, ◌++◌, length, drop, slice_index, Option, Some, None, refl, sym, ap, arith, append_assoc, length-append, inl, inr}
+use Rattle.std.proofs.Common.{◌≡◌, ◌∙◌, ℕ, suc, ◌+◌, ◌-◌, ◌*◌, ◌/◌, ◌^◌, ◌<◌, ◌≤◌, ◌==◌, nat_le, Bool, cond, true, false, true≢false, List, [], ◌∷◌, ◌++◌, length, drop, slice_index, Option, Some, None, refl, sym, ap, arith, rules, append_assoc, length-append, inl, inr}
 use Rattle.std.proofs.Math.Seq.{drop-append-add}
 use Rattle.std.proofs.lemmas.Bool.{cases_lt}
 use Rattle.std.proofs.lemmas.Bool.Decides.{nat_tests}
@@ -8,8 +8,8 @@ use Rattle.byteorder.specs.Numbers.{big_number-reads_back, length-bytes_high_fir
 use Rattle.request_form.specs.declared.form.Request.{Request}
 use Rattle.request_form.specs.declared.form.Request.TheVariants.{ReadMany}
 use Rattle.request_form.specs.declared.operation.Operation.{Operation}
-use Rattle.request_form.specs.Operations.{number_of, since_of, numbers_of, has_bytes, has_ranges, is_since, IsSince, request_with}
-use Rattle.request_form.proofs.Rows.{each, number_found, since_test, since_more}
+use Rattle.request_form.specs.Operations.{number_of, since_of, numbers_of, has_bytes, has_ranges, IsSince, request_with}
+use Rattle.request_form.proofs.Rows.{number_found, since_more}
 use Rattle.frame_wire.specs.Requests.{number_at, numbers_in, pairs_of, fits_by, fits, made, request_in, request_of}
 use Rattle.frame_wire.specs.Said.{field, wide_field, fields}
 use Rattle.frame_wire.specs.Decoded.{IsDecoded}
@@ -73,18 +73,8 @@ pub known : (operation : Operation) (version : ℕ) (bytes : List ℕ) → IsSin
 known operation version bytes since = ap (λ (o : Option Operation). request_in o bytes) (number_found operation (number_of operation) version (refl, since))
 
 -- what frames of version 1 have begins no ranges
-pub not_true : (b : Bool) → not b ≡ true → b ≡ false
-not_true true h = sym h
-not_true false h = refl
-
-first_test : (a c : Bool) → cond a c true ≡ true → a ≡ true → c ≡ true
-first_test true c h e = h
-first_test false c h e = absurd (true≢false (sym e))
-
-pub first_plain : (operation : Operation) → IsSince (since_of operation) 1 → has_ranges operation ≡ false
-first_plain operation since =
-    let all = each (λ o. cond (is_since (since_of o) 1) (not (has_ranges o)) true) refl operation in
-    not_true (has_ranges operation) (first_test (is_since (since_of operation) 1) (not (has_ranges operation)) all (since_test (since_of operation) 1 since))
+first_plain : (operation : Operation) → IsSince (since_of operation) 1 → has_ranges operation ≡ false
+first_plain operation since = search rules
 
 exactly : (m n : ℕ) → n ≡ m → (n == m) ≡ true
 exactly m n e = grind (arith, nat_tests, e)

@@ -1,5 +1,5 @@
 -- The table of the operations: how each is spelled in lines and in frames, what its fields are, and the request that it makes.
-use Rattle.std.specs.Prelude.{◌≡◌, ℕ, ◌==◌, ◌≤◌, ◌&&◌, nat_le, Bool, true, false, List, [], ◌∷◌, slice_index, slice_get, ◌-◌, find, Option, Some, None, codes, refl}
+use Rattle.std.specs.Prelude.{◌≡◌, ℕ, ◌==◌, ◌≤◌, ◌&&◌, nat_le, Bool, true, false, List, [], ◌∷◌, slice_index, find, Option, Some, None, codes}
 use Rattle.std.specs.Str.{bytes_eq}
 use Rattle.request_form.specs.declared.form.Request.{Request}
 use Rattle.request_form.specs.declared.form.Request.TheVariants as Requests
@@ -50,25 +50,6 @@ abbrev pub operations : List Operation
 operations =
     Operations.Create ∷ Operations.Append ∷ Operations.Write ∷ Operations.StartAppend ∷ Operations.StartWrite ∷ Operations.Finish ∷ Operations.Read ∷ Operations.Recent
     ∷ Operations.Size ∷ Operations.Sync ∷ Operations.Status ∷ Operations.Branch ∷ Operations.Quit ∷ Operations.Hello ∷ Operations.ReadMany ∷ Operations.Repair ∷ []
-
--- where each stands in that list
-pub at_number : (operation : Operation) → slice_get operations ((row_of operation).number - 1) ≡ Some operation
-at_number Operations.Create = refl
-at_number Operations.Append = refl
-at_number Operations.Write = refl
-at_number Operations.StartAppend = refl
-at_number Operations.StartWrite = refl
-at_number Operations.Finish = refl
-at_number Operations.Read = refl
-at_number Operations.Recent = refl
-at_number Operations.Size = refl
-at_number Operations.Sync = refl
-at_number Operations.Status = refl
-at_number Operations.Branch = refl
-at_number Operations.Quit = refl
-at_number Operations.Hello = refl
-at_number Operations.ReadMany = refl
-at_number Operations.Repair = refl
 
 -- ---- its columns
 

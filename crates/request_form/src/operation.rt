@@ -128,12 +128,10 @@ impl Operation {
     {
         match self {
             Operation::Create | Operation::Quit => 0,
-            Operation::Append | Operation::StartAppend => 1,
-            Operation::Finish | Operation::Recent | Operation::Status | Operation::Hello => 1,
-            Operation::Write | Operation::StartWrite => 2,
-            Operation::Size | Operation::Sync | Operation::Branch => 2,
-            Operation::ReadMany | Operation::Repair => 2,
+            Operation::Append | Operation::StartAppend | Operation::Finish => 1,
+            Operation::Recent | Operation::Status | Operation::Hello => 1,
             Operation::Read => 4,
+            _ => 2,
         }
     }
 
@@ -141,21 +139,17 @@ impl Operation {
     pub fn has_bytes(self) -> bool
         ensures { result ≡ has_bytes self }
     {
-        match self {
-            Operation::Append | Operation::Write => true,
-            Operation::StartAppend | Operation::StartWrite => true,
-            _ => false,
-        }
+        matches!(
+            self,
+            Operation::Append | Operation::Write | Operation::StartAppend | Operation::StartWrite
+        )
     }
 
     /// Whether ranges follow the numbers.
     pub fn has_ranges(self) -> bool
         ensures { result ≡ has_ranges self }
     {
-        match self {
-            Operation::ReadMany => true,
-            _ => false,
-        }
+        matches!(self, Operation::ReadMany)
     }
 
     /// The request with these numbers, and these bytes where it has any. None where it has ranges.

@@ -1,5 +1,5 @@
 -- The fields of a text, taken apart at its spaces, and what a command makes of them.
-use Rattle.std.proofs.Common.{◌≡◌, ◌∙◌, ℕ, zero, suc, ◌+◌, ◌^◌, ◌<◌, ◌==◌, Bool, cond, true, false, List, [], ◌∷◌, ◌++◌, length, map, Option, Some, None, refl, ap, subst, arith, append_assoc}
+use Rattle.std.proofs.Common.{◌≡◌, ◌∙◌, ℕ, zero, suc, ◌+◌, ◌^◌, ◌<◌, ◌==◌, Bool, cond, true, false, List, [], ◌∷◌, ◌++◌, length, map, Option, Some, None, refl, ap, subst, arith, rules, append_assoc}
 use Rattle.std.specs.Fmt.{decimal}
 use Rattle.std.specs.Str.Parse.{AllDigits}
 use Rattle.std.specs.List.{All}
@@ -12,7 +12,7 @@ use Rattle.std.proofs.lemmas.List.Elements.{All-nil, All-cons, All-head, All-tai
 use Rattle.std.proofs.lemmas.List.Splits.{slice_split_at, slice_split_none}
 use Rattle.request_form.specs.declared.operation.Operation.{Operation}
 use Rattle.request_form.specs.Operations.{word_of, numbers_of, has_bytes, IsWord, HasWord}
-use Rattle.request_form.proofs.Rows.{each, word_is, word_found}
+use Rattle.request_form.proofs.Rows.{word_is, word_found}
 use Rattle.script_text.specs.Requests.{with_number, read, ask, request_in, request_of}
 use Rattle.script_text.specs.Lines.{fields_of}
 use Rattle.script_text.specs.Begun.{IsWithout, IsLetter}
@@ -66,7 +66,7 @@ letters_from (b ∷ bs) h = go (is_letter b) refl h (letters_from bs)
     go false e k on = absurd (cc)
 
 pub command_letters : (operation : Operation) → All IsLetter (command_of operation)
-command_letters operation = letters_from (command_of operation) (each (λ o. all_letters (command_of o)) refl operation)
+command_letters operation = letters_from (command_of operation) (search rules)
 
 pub letter_solid : (b : ℕ) → IsLetter b → 35 < b
 letter_solid b h = grind arith

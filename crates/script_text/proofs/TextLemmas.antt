@@ -1,12 +1,10 @@
 -- What a text says as a line, however it goes on.
-use Rattle.std.proofs.Common.{◌≡◌, ◌≢◌, ◌∙◌, ◌⊎◌, inl, inr, ℕ, ◌≤◌, ◌==◌, nat_le, true, false, List, [], ◌∷◌, ◌++◌, length, refl, sym, ap, subst, arith, append_assoc, length-append}
+use Rattle.std.proofs.Common.{◌≡◌, ◌≢◌, ◌∙◌, ◌⊎◌, inl, inr, ℕ, ◌≤◌, ◌==◌, false, List, [], ◌∷◌, ◌++◌, length, refl, sym, ap, subst, arith, rules, append_assoc, length-append}
 use Rattle.std.specs.List.{All}
 use Rattle.std.proofs.lemmas.Bool.{ne_eqb}
-use Rattle.std.proofs.lemmas.Bool.Decides.{nat_tests}
 use Rattle.std.proofs.lemmas.List.Elements.{All-head, All-tail, All-push}
 use Rattle.request_form.specs.declared.operation.Operation.{Operation}
 use Rattle.request_form.specs.Operations.{HasWord, operation_of_word}
-use Rattle.request_form.proofs.Rows.{each}
 use Rattle.script_text.specs.Requests.{request_in, request_of}
 use Rattle.script_text.specs.Lines.{fields_of}
 use Rattle.script_text.specs.Begun.{IsWithout, IsLetter}
@@ -17,10 +15,7 @@ use Rattle.script_text.proofs.FieldLemmas.{fields_of-cut, fields_of-one, letters
 -- ---- words
 
 command_short : (operation : Operation) → length (command_of operation) ≤ 12
-command_short operation = few (length (command_of operation)) (each (λ o. nat_le (length (command_of o)) 12) refl operation)
-  where
-    few : (n : ℕ) → nat_le n 12 ≡ true → n ≤ 12
-    few n h = grind (arith, nat_tests)
+command_short operation = search rules
 
 letter_inside : (front : List ℕ) (b : ℕ) (back : List ℕ) → All IsLetter (front ++ b ∷ back) → IsLetter b
 letter_inside [] b back h = All-head IsLetter b back h
