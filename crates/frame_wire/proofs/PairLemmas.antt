@@ -1,5 +1,5 @@
 -- Pairs of numbers as fields, and what they ask for.
-use Rattle.std.proofs.Common.{◌≡◌, ◌∙◌, ℕ, zero, suc, ◌+◌, ◌-◌, ◌*◌, ◌/◌, ◌%◌, ◌^◌, ◌<◌, ◌≤◌, ◌==◌, ◌&&◌, nat_le, Bool, cond, true, false, true≢false, List, [], ◌∷◌, ◌++◌, length, drop, Option, Some, None, refl, sym, ap, subst, arith, rules, append_assoc, append-nil, length-append}
+use Rattle.std.proofs.Common.{◌≡◌, ◌∙◌, ℕ, zero, suc, ◌+◌, ◌-◌, ◌*◌, ◌/◌, ◌%◌, ◌^◌, ◌<◌, ◌≤◌, ◌==◌, ◌&&◌, nat_le, Bool, cond, true, false, List, [], ◌∷◌, ◌++◌, length, drop, Option, Some, None, refl, sym, ap, subst, arith, rules, append_assoc, append-nil, length-append}
 use Rattle.std.specs.List.{All}
 use Rattle.std.proofs.lemmas.List.{drop_at}
 use Rattle.std.proofs.lemmas.List.Elements.{All-head, All-tail}
@@ -8,10 +8,10 @@ use Rattle.std.proofs.lemmas.Bool.Decides.{nat_tests}
 use Rattle.byteorder.specs.Endian.{big_number}
 use Rattle.request_form.specs.declared.form.Request.TheVariants.{ReadMany}
 use Rattle.request_form.specs.declared.operation.Operation.{Operation}
-use Rattle.request_form.specs.Operations.{number_of, since_of, numbers_of, has_bytes, has_ranges, IsSince, request_with}
-use Rattle.frame_wire.specs.Requests.{number_at, numbers_in, pairs_of, holds_ranges, fits_by, fits, made, request_of}
+use Rattle.request_form.specs.Operations.{number_of, since_of, numbers_of, has_ranges, IsSince, request_with}
+use Rattle.frame_wire.specs.Requests.{number_at, numbers_in, pairs_of, holds_ranges, fits, made, request_of}
 use Rattle.frame_wire.specs.Said.{field, pair_fields}
-use Rattle.frame_wire.specs.Decoded.{IsSmallPair, IsSecond, pairs_fit, IsPaired}
+use Rattle.frame_wire.specs.Decoded.{IsSmallPair, pairs_fit, IsPaired}
 use Rattle.frame_wire.proofs.RequestLemmas.{field-length, field-number, known}
 
 pub pair_fields-length : (ps : List (ℕ × ℕ)) → length (pair_fields ps) ≡ 16 * length ps
@@ -79,20 +79,19 @@ pub fit_pairs : (ranges : Bool) (count : ℕ) → pairs_fit ranges count ≡ tru
 fit_pairs true count h = let bounds = range_bounds count h in (bounds.0, omega (arith, bounds.1))
 fit_pairs false count h = let same = is_equal count 16 h in (omega arith, omega arith)
 
--- and fit an operation of two numbers without bytes
-pairs_by : (bytes ranges : Bool) (k n : ℕ) → bytes ≡ false → k ≡ 2 → fits_by bytes ranges k n ≡ pairs_fit ranges n
-pairs_by true ranges k n none two = absurd (true≢false none)
-pairs_by false true k n none two = refl
-pairs_by false false k n none two = ap (λ (m : ℕ). n == 8 * m) two
+-- ---- the operations that frames have since version 2
 
-second_fits : (operation : Operation) (n : ℕ) → IsSecond operation → fits operation n ≡ pairs_fit (has_ranges operation) n
-second_fits operation n second = pairs_by (has_bytes operation) (has_ranges operation) (numbers_of operation) n second.no_bytes second.numbers
+pub second_is : (operation : Operation) → IsSince (since_of operation) 2 → (IsSince (since_of operation) 1 → ⊥) → since_of operation ≡ Some 2
+second_is operation later first = search rules
 
--- ---- the operations since version 2
+second_numbers : (operation : Operation) → since_of operation ≡ Some 2 → numbers_of operation ≡ 2
+second_numbers operation second = search rules
 
--- what frames have since version 2, and not before, is one of them
-pub second_is : (operation : Operation) → IsSince (since_of operation) 2 → (IsSince (since_of operation) 1 → ⊥) → IsSecond operation
-second_is operation later first = record { since = later; numbers = search rules; no_bytes = search rules }
+pub second_fits : (operation : Operation) (n : ℕ) → since_of operation ≡ Some 2 → fits operation n ≡ pairs_fit (has_ranges operation) n
+second_fits operation n second = search rules
+
+second_since : (operation : Operation) → since_of operation ≡ Some 2 → IsSince (since_of operation) 2
+second_since operation second = search rules
 
 -- ---- what was decoded, once nothing more is to come
 
@@ -123,7 +122,7 @@ module _ (operation : Operation) (target : ℕ × ℕ) (ranges : List (ℕ × �
       let fit : fits operation (length all) ≡ true =
       second_fits operation (length all) d.second ∙ ap (λ (n : ℕ). pairs_fit (has_ranges operation) n) (pair_fields-length (target ∷ ranges) ∙ sym count_is) ∙ d.fits in
       ap (λ (l : List ℕ). request_of 2 (number_of operation ∷ l)) (ap (λ (l : List ℕ). all ++ l) no_part ∙ append-nil all)
-      ∙ known operation 2 all d.second.since
+      ∙ known operation 2 all (second_since operation d.second)
       ∙ ap (λ (b : Bool). cond b (made operation all) None) fit
 
   pub ranges_asked : has_ranges operation ≡ true → request_of 2 (number_of operation ∷ (pair_fields (target ∷ ranges) ++ part)) ≡ Some (ReadMany target.0 target.1 ranges)
@@ -148,7 +147,7 @@ module _ (operation : Operation) (target : ℕ × ℕ) (ranges : List (ℕ × �
       second_asks
       ∙ ap (λ (l : List (ℕ × ℕ)). made operation (pair_fields (target ∷ l))) (no_pairs ranges (omega arith))
       ∙ ap (λ (b : Bool). cond b (Some (ReadMany (number_at 0 all) (number_at 8 all) (pairs_of (length all / 16 - 1) (drop 16 all)))) (request_with operation (numbers_in (numbers_of operation) all) (drop (8 * numbers_of operation) all))) has
-      ∙ ap (λ (n : ℕ). request_with operation (numbers_in n all) (drop (8 * n) all)) d.second.numbers
+      ∙ ap (λ (n : ℕ). request_with operation (numbers_in n all) (drop (8 * n) all)) (second_numbers operation d.second)
       ∙ ap (λ (n : ℕ). request_with operation (n ∷ number_at 8 all ∷ []) (drop 16 all)) (first_at target [] small.0)
       ∙ ap (λ (n : ℕ). request_with operation (target.0 ∷ n ∷ []) (drop 16 all)) (second_at target [] small.1)
       ∙ ap (λ (l : List ℕ). request_with operation (target.0 ∷ target.1 ∷ []) l) (behind_pair target [])

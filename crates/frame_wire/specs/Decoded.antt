@@ -24,20 +24,14 @@ all_pairs (Some target) ranges = target ∷ ranges
 abbrev pub IsSmallPair : ℕ × ℕ → Type 0
 IsSmallPair pair = (pair.0 < 2 ^ 64) × (pair.1 < 2 ^ 64)
 
--- an operation that frames have since version 2: its fields are a blob and its version, and ranges or nothing behind them
-pub record IsSecond (operation : Operation) : Type 0 where
-  pub since : IsSince (since_of operation) 2
-  pub numbers : numbers_of operation ≡ 2
-  pub no_bytes : has_bytes operation ≡ false
-
--- whether so many bytes are its fields, where it has ranges or has none
+-- whether so many bytes are the fields of an operation that frames have since version 2, by whether it has ranges
 abbrev pub pairs_fit : Bool → ℕ → Bool
 pairs_fit true count = holds_ranges count
 pairs_fit false count = count == 16
 
 -- the same of pairs of numbers, then of the next one
 pub record IsPaired (operation : Operation) (target : Option (ℕ × ℕ)) (ranges : List (ℕ × ℕ)) (part : List ℕ) (left : ℕ) : Type 0 where
-  pub second : IsSecond operation
+  pub second : since_of operation ≡ Some 2
   pub numbers_fit : All IsSmallPair (all_pairs target ranges)
   pub part_fits : length part < 16
   pub ranges_wait : target ≡ None → ranges ≡ []

@@ -1,11 +1,11 @@
-ghost use Rattle.std.specs.Prelude.{◌≡◌, ◌≢◌, ◌<◌, ◌≤◌, ◌+◌, ◌*◌, ◌∷◌, ◌++◌, [], length, take, true, IfOk, None};
+ghost use Rattle.std.specs.Prelude.{◌≡◌, ◌≢◌, ◌<◌, ◌≤◌, ◌+◌, ◌*◌, ◌∷◌, ◌++◌, [], length, take, true, IfOk, Some, None};
 ghost use Rattle.std.specs.List.{All};
 ghost use Rattle.std.specs.Vec.{vec_len, vec_capacity};
 ghost use Rattle.items.specs.Come.{Come, TakesBytes};
-ghost use Rattle.request_form.specs.Operations.{number_of};
+ghost use Rattle.request_form.specs.Operations.{number_of, since_of};
 ghost use Rattle.frame_wire.specs.Requests.{fits, request_of};
 ghost use Rattle.frame_wire.specs.Said.{field, pair_fields};
-ghost use Rattle.frame_wire.specs.Decoded.{all_pairs, IsSmallPair, IsSecond};
+ghost use Rattle.frame_wire.specs.Decoded.{all_pairs, IsSmallPair};
 
 use crate::number::number;
 use arrayvec::ArrayVec;
@@ -105,7 +105,7 @@ impl Pairs {
     /// The fields of an operation, of which nothing has come.
     pub fn of(alloc: Global, operation: Operation, left: u32) -> Pairs
         requires fits { fits operation left ≡ true }
-        requires second { IsSecond operation }
+        requires second { since_of operation ≡ Some 2 }
         ensures { result ≡ record { bytes = number_of operation ∷ []; left = left } }
     {
         Pairs {

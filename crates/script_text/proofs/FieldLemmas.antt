@@ -1,9 +1,8 @@
 -- The fields of a text, taken apart at its spaces, and what a command makes of them.
-use Rattle.std.proofs.Common.{◌≡◌, ◌∙◌, ℕ, zero, suc, ◌+◌, ◌^◌, ◌<◌, ◌==◌, Bool, cond, true, false, List, [], ◌∷◌, ◌++◌, length, map, Option, Some, None, refl, ap, subst, arith, rules, append_assoc}
+use Rattle.std.proofs.Common.{◌≡◌, ◌∙◌, ℕ, zero, suc, ◌+◌, ◌^◌, ◌<◌, ◌==◌, Bool, cond, true, false, List, [], ◌∷◌, ◌++◌, length, map, Option, Some, None, refl, ap, arith, rules, append_assoc}
 use Rattle.std.specs.Fmt.{decimal}
 use Rattle.std.specs.Str.Parse.{AllDigits}
 use Rattle.std.specs.List.{All}
-use Rattle.std.specs.Option.{unwrap_or}
 use Rattle.std.proofs.lemmas.Bool.{ne_eqb}
 use Rattle.std.proofs.lemmas.Bool.Decides.{nat_tests}
 use Rattle.std.proofs.lemmas.Fmt.{decimal_is_IsNumeral}
@@ -11,7 +10,7 @@ use Rattle.std.proofs.lemmas.Str.Parse.{digit_from_value}
 use Rattle.std.proofs.lemmas.List.Elements.{All-nil, All-cons, All-head, All-tail, All-weaker}
 use Rattle.std.proofs.lemmas.List.Splits.{slice_split_at, slice_split_none}
 use Rattle.request_form.specs.declared.operation.Operation.{Operation}
-use Rattle.request_form.specs.Operations.{word_of, numbers_of, has_bytes, IsWord, HasWord}
+use Rattle.request_form.specs.Operations.{numbers_of, has_bytes, HasWord}
 use Rattle.request_form.proofs.Rows.{word_is, word_found}
 use Rattle.script_text.specs.Requests.{with_number, read, ask, request_in, request_of}
 use Rattle.script_text.specs.Lines.{fields_of}
@@ -84,16 +83,9 @@ with_number-none None = refl
 pub no_command : (word : List ℕ) (fs : List (List ℕ)) → ((operation : Operation) → HasWord operation word → ⊥) → request_of (word ∷ fs) ≡ None
 no_command word fs h = ap (λ (o : Option Operation). request_in o fs) (word_is None word h)
 
--- a word that is an operation's command is the one that the table has
-word_text : (own : Option (List ℕ)) (word : List ℕ) → IsWord own word → word ≡ unwrap_or own []
-word_text None word h = absurd h
-word_text (Some own) word h = h
-
+-- a word that is an operation's command
 pub is_command : (operation : Operation) (word : List ℕ) → HasWord operation word → word ≡ command_of operation
-is_command operation word h = word_text (word_of operation) word h
-
-pub own_word : (operation : Operation) (word : List ℕ) → HasWord operation word → HasWord operation (command_of operation)
-own_word operation word h = subst (λ (l : List ℕ). HasWord operation l) (is_command operation word h) h
+is_command operation word h = search rules
 
 -- ---- a line up to the field that has begun
 
