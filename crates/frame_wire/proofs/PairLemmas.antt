@@ -12,7 +12,7 @@ use Rattle.request_form.specs.Operations.{number_of, since_of, numbers_of, has_r
 use Rattle.frame_wire.specs.Requests.{number_at, numbers_in, pairs_of, holds_ranges, fits, made, request_of}
 use Rattle.frame_wire.specs.Said.{field, pair_fields}
 use Rattle.frame_wire.specs.Decoded.{IsSmallPair, pairs_fit, IsPaired}
-use Rattle.frame_wire.proofs.RequestLemmas.{field-length, field-number, known}
+use Rattle.frame_wire.proofs.RequestLemmas.{field-length, field-number, known, made_plain}
 
 pub pair_fields-length : (ps : List (ℕ × ℕ)) → length (pair_fields ps) ≡ 16 * length ps
 pair_fields-length [] = refl
@@ -132,12 +132,14 @@ module _ (operation : Operation) (target : ℕ × ℕ) (ranges : List (ℕ × �
       let small = small_first target ranges d.numbers_fit in
       let count : length all / 16 - 1 ≡ length ranges = omega arith in
       second_asks
-      ∙ ap (λ (b : Bool). cond b (Some (ReadMany (number_at 0 all) (number_at 8 all) (pairs_of (length all / 16 - 1) (drop 16 all)))) (request_with operation (numbers_in (numbers_of operation) all) (drop (8 * numbers_of operation) all))) has
-      ∙ ap (λ (n : ℕ). Some (ReadMany n (number_at 8 all) (pairs_of (length all / 16 - 1) (drop 16 all)))) (first_at target (pair_fields ranges) small.0)
-      ∙ ap (λ (n : ℕ). Some (ReadMany target.0 n (pairs_of (length all / 16 - 1) (drop 16 all)))) (second_at target (pair_fields ranges) small.1)
-      ∙ ap (λ (n : ℕ). Some (ReadMany target.0 target.1 (pairs_of n (drop 16 all)))) count
-      ∙ ap (λ (l : List ℕ). Some (ReadMany target.0 target.1 (pairs_of (length ranges) l))) (behind_pair target (pair_fields ranges))
-      ∙ ap (λ (ps : List (ℕ × ℕ)). Some (ReadMany target.0 target.1 ps)) (pairs_back ranges (length ranges) refl (small_others target ranges d.numbers_fit))
+      ∙ rw (
+        has,
+        count,
+        first_at target (pair_fields ranges) small.0,
+        second_at target (pair_fields ranges) small.1,
+        behind_pair target (pair_fields ranges),
+        pairs_back ranges (length ranges) refl (small_others target ranges d.numbers_fit),
+      ) refl
 
   pub numbers_asked : has_ranges operation ≡ false → request_of 2 (number_of operation ∷ (pair_fields (target ∷ ranges) ++ part)) ≡ request_with operation (target.0 ∷ target.1 ∷ []) []
   numbers_asked has =
@@ -146,7 +148,7 @@ module _ (operation : Operation) (target : ℕ × ℕ) (ranges : List (ℕ × �
       let whole = is_equal (16 * length (target ∷ ranges)) 16 (ap (λ (b : Bool). pairs_fit b (16 * length (target ∷ ranges))) (sym has) ∙ ap (λ (n : ℕ). pairs_fit (has_ranges operation) n) (sym count_is) ∙ d.fits) in
       second_asks
       ∙ ap (λ (l : List (ℕ × ℕ)). made operation (pair_fields (target ∷ l))) (no_pairs ranges (omega arith))
-      ∙ ap (λ (b : Bool). cond b (Some (ReadMany (number_at 0 all) (number_at 8 all) (pairs_of (length all / 16 - 1) (drop 16 all)))) (request_with operation (numbers_in (numbers_of operation) all) (drop (8 * numbers_of operation) all))) has
+      ∙ made_plain operation all has
       ∙ ap (λ (n : ℕ). request_with operation (numbers_in n all) (drop (8 * n) all)) (second_numbers operation d.second)
       ∙ ap (λ (n : ℕ). request_with operation (n ∷ number_at 8 all ∷ []) (drop 16 all)) (first_at target [] small.0)
       ∙ ap (λ (n : ℕ). request_with operation (target.0 ∷ n ∷ []) (drop 16 all)) (second_at target [] small.1)

@@ -88,6 +88,11 @@ both_length ns bytes = let l = length-append (fields ns) bytes in let n = fields
 none_behind : (ns bytes : List ℕ) → bytes ≡ [] → length (fields ns ++ bytes) ≡ 8 * length ns
 none_behind ns bytes e = let l = both_length ns bytes in let none : length bytes ≡ 0 = ap (λ (l : List ℕ). length l) e in omega arith
 
+-- what is made of numbers, and of bytes behind them
+pub made_plain : (operation : Operation) (fields : List ℕ) → has_ranges operation ≡ false
+    → made operation fields ≡ request_with operation (numbers_in (numbers_of operation) fields) (drop (8 * numbers_of operation) fields)
+made_plain operation fields plain = rw plain refl
+
 whole_by : (bytes ranges : Bool) (k n : ℕ) → ranges ≡ false → 8 * k ≤ n → (bytes ≡ false → n ≡ 8 * k) → fits_by bytes ranges k n ≡ true
 whole_by true ranges k n plain least exact = at_least (8 * k) n least
 whole_by false true k n plain least exact = absurd (true≢false plain)
@@ -100,10 +105,9 @@ asks operation ns bytes plain count only small =
     let all : List ℕ = fields ns ++ bytes in
     let whole = both_length ns bytes in
     let k = numbers_of operation in
-    let ranged : Option Request = Some (ReadMany (number_at 0 all) (number_at 8 all) (pairs_of (length all / 16 - 1) (drop 16 all))) in
     ap (λ (b : Bool). cond b (made operation all) None)
     (whole_by (has_bytes operation) (has_ranges operation) k (length all) plain (omega (arith, whole, count)) (λ e. none_behind ns bytes (only e) ∙ ap (λ (n : ℕ). 8 * n) count))
-    ∙ ap (λ (b : Bool). cond b ranged (request_with operation (numbers_in k all) (drop (8 * k) all))) plain
+    ∙ made_plain operation all plain
     ∙ ap (λ (n : ℕ). request_with operation (numbers_in n all) (drop (8 * n) all)) (sym count)
     ∙ ap (λ (l : List ℕ). request_with operation l (drop (8 * length ns) all)) (numbers_back ns bytes small)
     ∙ ap (λ (l : List ℕ). request_with operation ns l) (drop_fields (8 * length ns) ns bytes refl)
