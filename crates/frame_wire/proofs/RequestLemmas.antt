@@ -1,16 +1,14 @@
 -- What operations and their fields ask for.
-use Rattle.std.proofs.Common.{◌≡◌, ◌∙◌, ℕ, suc, ◌+◌, ◌-◌, ◌*◌, ◌/◌, ◌^◌, ◌<◌, ◌≤◌, ◌==◌, nat_le, Bool, cond, true, false, true≢false, List, [], ◌∷◌, ◌++◌, length, drop, slice_index, Option, Some, None, refl, sym, ap, arith, rules, append_assoc, length-append, inl, inr}
+use Rattle.std.proofs.Common.{◌≡◌, ◌∙◌, ℕ, suc, ◌+◌, ◌*◌, ◌^◌, ◌<◌, ◌≤◌, ◌==◌, nat_le, Bool, cond, true, false, true≢false, List, [], ◌∷◌, ◌++◌, length, drop, slice_index, Option, Some, None, refl, sym, ap, arith, rules, append_assoc, length-append, inl, inr}
 use Rattle.std.proofs.Math.Seq.{drop-append-add}
 use Rattle.std.proofs.lemmas.Bool.{cases_lt}
 use Rattle.std.proofs.lemmas.Bool.Decides.{nat_tests}
 use Rattle.byteorder.specs.Endian.{big_number}
 use Rattle.byteorder.specs.Numbers.{big_number-reads_back, length-bytes_high_first}
-use Rattle.request_form.specs.declared.form.Request.{Request}
-use Rattle.request_form.specs.declared.form.Request.TheVariants.{ReadMany}
 use Rattle.request_form.specs.declared.operation.Operation.{Operation}
 use Rattle.request_form.specs.Operations.{number_of, since_of, numbers_of, has_bytes, has_ranges, IsSince, request_with}
 use Rattle.request_form.proofs.Rows.{number_found, since_more}
-use Rattle.frame_wire.specs.Requests.{number_at, numbers_in, pairs_of, fits_by, fits, made, request_in, request_of}
+use Rattle.frame_wire.specs.Requests.{number_at, numbers_in, fits_by, fits, made, request_in, request_of}
 use Rattle.frame_wire.specs.Said.{field, wide_field, fields}
 use Rattle.frame_wire.specs.Decoded.{IsDecoded}
 

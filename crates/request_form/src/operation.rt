@@ -62,37 +62,23 @@ impl Operation {
             ((operation : Operation) → HasWord operation word.now → ⊥)
             (λ operation. HasWord operation word.now) }
     {
-        // Those that come most often stand first. Mostly a word's length or its first letters tell it from another.
-        if word == b"append".as_slice() {
-            Some(Operation::Append)
-        } else if word == b"read".as_slice() {
-            Some(Operation::Read)
-        } else if word == b"write".as_slice() {
-            Some(Operation::Write)
-        } else if word == b"create".as_slice() {
-            Some(Operation::Create)
-        } else if word == b"start-append".as_slice() {
-            Some(Operation::StartAppend)
-        } else if word == b"start-write".as_slice() {
-            Some(Operation::StartWrite)
-        } else if word == b"finish".as_slice() {
-            Some(Operation::Finish)
-        } else if word == b"recent".as_slice() {
-            Some(Operation::Recent)
-        } else if word == b"size".as_slice() {
-            Some(Operation::Size)
-        } else if word == b"sync".as_slice() {
-            Some(Operation::Sync)
-        } else if word == b"status".as_slice() {
-            Some(Operation::Status)
-        } else if word == b"branch".as_slice() {
-            Some(Operation::Branch)
-        } else if word == b"repair".as_slice() {
-            Some(Operation::Repair)
-        } else if word == b"quit".as_slice() {
-            Some(Operation::Quit)
-        } else {
-            None
+        // Its length decides first, and then its letters.
+        match word {
+            b"append" => Some(Operation::Append),
+            b"read" => Some(Operation::Read),
+            b"write" => Some(Operation::Write),
+            b"create" => Some(Operation::Create),
+            b"start-append" => Some(Operation::StartAppend),
+            b"start-write" => Some(Operation::StartWrite),
+            b"finish" => Some(Operation::Finish),
+            b"recent" => Some(Operation::Recent),
+            b"size" => Some(Operation::Size),
+            b"sync" => Some(Operation::Sync),
+            b"status" => Some(Operation::Status),
+            b"branch" => Some(Operation::Branch),
+            b"repair" => Some(Operation::Repair),
+            b"quit" => Some(Operation::Quit),
+            _ => None,
         }
     }
 
