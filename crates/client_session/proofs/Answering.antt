@@ -13,7 +13,7 @@ use Rattle.request_form.specs.Turns.{AfterGap}
 use Rattle.request_form.specs.Answers.{AddTurn}
 use Rattle.blob_model.specs.declared.call.Call.{Call}
 use Rattle.request_form.specs.declared.form.Reply.{Reply}
-use Rattle.session_parts.specs.Tickets.{OpenUpdate}
+use Rattle.client_session.specs.Tickets.{OpenUpdate}
 use Rattle.client_session.specs.Results.{told_of, create_reply, branch_reply}
 use Rattle.client_session.specs.Sessions.{session_at}
 use Rattle.client_session.proofs.Turns.{Took, not_done, outcome_of_gap, seen_event}

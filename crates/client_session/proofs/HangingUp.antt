@@ -26,7 +26,7 @@ use Rattle.request_form.proofs.HangUps.{count_more}
 use Rattle.request_form.specs.declared.form.Reply.{Reply}
 use Rattle.client_session.specs.TurnCounts.{UpTo}
 use Rattle.client_session.specs.Sessions.{SessionState, Continues, session_of}
-use Rattle.session_parts.specs.Tickets.{OpenUpdate, ticket_of, tickets_of}
+use Rattle.client_session.specs.Tickets.{OpenUpdate, ticket_of, tickets_of}
 use Rattle.client_session.specs.SessionInvariant.{IsOpen}
 use Rattle.client_session.specs.HangUp.{GivesUpOne, GivingUp, finished_seen, counted, tells_hindered}
 use Rattle.client_session.proofs.Waiting.{goes_both}

@@ -6,7 +6,7 @@ use Rattle.request_form.specs.Session.{Session, HeldTicket, ticket_at, without_t
 use Rattle.request_form.specs.Answers.{AfterGap, RepairTurn, FinishAnswer}
 use Rattle.request_form.specs.declared.form.Fault.{Fault}
 use Rattle.version_manager.specs.Log.{events}
-use Rattle.session_parts.specs.Tickets.{OpenUpdate, ticket_of, tickets_of, IsHeldAt}
+use Rattle.client_session.specs.Tickets.{OpenUpdate, ticket_of, tickets_of, IsHeldAt}
 use Rattle.client_session.specs.Results.{finish_reply, repair_reply}
 use Rattle.client_session.specs.Sessions.{SessionState, session_of}
 use Rattle.client_session.specs.SessionInvariant.{IsOpen}

@@ -4,7 +4,7 @@ use Rattle.std.specs.Prelude.{All, slice_get, if◌then◌else◌}
 use Rattle.std.proofs.Math.ListN.{length-set}
 use Rattle.std.proofs.lemmas.List.{map-append, take-take, take-append-le}
 use Rattle.std.proofs.lemmas.List.Elements.{All-weaker, All-take}
-use Rattle.std.proofs.lemmas.Option.{slice_get_within, get_or_from_slice_get}
+use Rattle.std.proofs.lemmas.Option.{slice_get_within}
 use Rattle.tree_geom.proofs.Spans.{page_pos}
 use Rattle.blob_model.specs.Content.{Update, content_from}
 use Rattle.blob_model.specs.Store.{Store, Blob, blob_at, empty_store}
@@ -45,6 +45,7 @@ use Rattle.request_form.specs.declared.form.Fault.{Fault}
 use Rattle.client_session.specs.Kept.{KeptVersion, IsKept, IsViewAmong, KeptAfter, Found, Coming, has_opened}
 use Rattle.client_session.specs.Opening.{Opening}
 use Rattle.client_session.specs.Sessions.{SessionState, StoreState}
+use Rattle.client_session.proofs.Holding.{at_index}
 use Rattle.client_session.proofs.Ranges.{published_there, size_there}
 
 -- ---- as the history goes on
@@ -53,10 +54,6 @@ kept_longer f log log' begins v k = record { front = k.front; begins = begins_bo
 
 pub kept_stay : (f : DeskFixed) (log log' : List (ℕ × Event)) (vs : List Version) → Begins log log' → All (IsKept f log) vs → All (IsKept f log') vs
 kept_stay f log log' vs begins each = All-weaker (IsKept f log) (IsKept f log') (kept_longer f log log' begins) vs each
-
--- one of those that are kept
-kept_one : (f : DeskFixed) (log : List (ℕ × Event)) (vs : List Version) (i : ℕ) (v : Version) → slice_get vs i ≡ Some v → All (IsKept f log) vs → IsKept f log v
-kept_one f log vs i v at each = subst (IsKept f log) (get_or_from_slice_get vs i v v at) (each i v (slice_get_within vs i v at))
 
 -- one that was opened just now
 pub opened_kept : {D : Type 0} (s s' : SessionState D) (blob version : ℕ) (v : Version) → Opening s blob version (Ok v) s' → IsKept s'.store.fixed s'.log v
@@ -215,7 +212,7 @@ found_kept tell s v n is k le =
 pub found_by_view : {D : Type 0} → RowsTell → (s : SessionState D) (vs : List Version) (blob version : ℕ) (view : Version) → All (IsKept s.store.fixed s.log) vs → IsViewAmong vs blob version view
     → Found s blob version view s
 found_by_view tell s vs blob version view each among =
-    let kept : IsKept s.store.fixed s.log among.whole = kept_one s.store.fixed s.log vs among.covers.index among.whole among.covers.is each in
+    let kept : IsKept s.store.fixed s.log among.whole = at_index (IsKept s.store.fixed s.log) vs among.covers.index among.whole among.covers.is each in
     subst (λ (v : Version). Found s blob version v s) (sym among.is)
     (subst (λ (b : ℕ). Found s b version (older_version among.whole version) s) among.covers.blob_is (found_kept tell s among.whole version among.stands kept among.covers.reaches))
 

@@ -11,6 +11,7 @@ pub mod Finished
 pub mod Numbered
 pub mod UpdateAnswers
 pub mod HeldFinishes
+pub mod Finding
 pub mod Holding
 pub mod Standing
 pub mod Opened

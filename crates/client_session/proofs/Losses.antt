@@ -17,12 +17,12 @@ use Rattle.request_form.specs.declared.form.Fault.TheVariants as Faults
 use Rattle.tree_weaver.specs.Anew.{IsStoredAnew, FoldFailed, OnLostFold}
 use Rattle.tree_weaver.proofs.Lost.{fold_since}
 use Rattle.page_fan.specs.Lost.{IsFirstLost}
-use Rattle.session_parts.specs.Ranges.{OnPageLost, PageFailedInOne}
-use Rattle.session_parts.specs.Tickets.{OpenUpdate, IsHeldAt}
+use Rattle.range_reader.specs.Ranges.{OnPageLost, PageFailedInOne}
+use Rattle.client_session.specs.Tickets.{OpenUpdate, IsHeldAt}
 use Rattle.tree_weaver.specs.declared.folding.WeaveFault.{WeaveFault}
 use Rattle.tree_weaver.specs.declared.folding.WeaveFault.TheVariants as WeaveFaults
-use Rattle.session_parts.specs.declared.reading.RangeFault.{RangeFault}
-use Rattle.session_parts.specs.declared.reading.RangeFault.TheVariants as RangeFaults
+use Rattle.range_reader.specs.declared.ranges.RangeFault.{RangeFault}
+use Rattle.range_reader.specs.declared.ranges.RangeFault.TheVariants as RangeFaults
 use Rattle.client_session.specs.Results.{store_fault, weave_fault, range_of, repair_reply}
 use Rattle.client_session.specs.Losses.{IfPageLost, LostFirst, LostInRead, LostInRanges, LostAnew, LostOfHeld}
 use Rattle.client_session.specs.Finishing.{NotWoven, settles}

@@ -1,6 +1,7 @@
 -- What a session has seen where it answers want of memory.
 use Rattle.std.proofs.Common.{◌≡◌, refl, sym, ◌∙◌, ap, subst, ℕ, ◌+◌, ◌≤◌, true, false, List, [], ◌∷◌, ◌++◌, append-nil, length, Option, Some, None, Result, Ok, Err}
-use Rattle.std.specs.Prelude.{nat_lt, IfErr}
+use Rattle.std.specs.Prelude.{IfErr}
+use Rattle.std.proofs.lemmas.List.Elements.{All-contains}
 use Rattle.blob_model.specs.Content.{size_of}
 use Rattle.blob_model.specs.Store.{Store, Blob}
 use Rattle.blob_model.specs.Answer.{repair_refusal}
@@ -14,7 +15,6 @@ use Rattle.blob_model.specs.declared.call.Refusal.{Refusal}
 use Rattle.blob_model.specs.declared.call.Refusal.TheVariants as Refusals
 use Rattle.border_hints.specs.Numbered.{NumberedUpdate}
 use Rattle.snapshot.specs.Versions.{Version}
-use Rattle.snapshot.specs.Laws.{TellUpdates}
 use Rattle.turn_lock.specs.Shown.{PassView, Turned}
 use Rattle.version_manager.specs.Desks.{IsUnfinished, IsTicketOf, finished_or_not, is_finished_in, updates_in, OnNoMemory, unopened_size}
 use Rattle.version_manager.specs.Laws.{GapsAreOfOthers}
@@ -29,8 +29,9 @@ use Rattle.request_form.specs.Replies.{fault_of}
 use Rattle.request_form.specs.Session.{Session}
 use Rattle.request_form.specs.declared.form.Fault.{Fault}
 use Rattle.request_form.specs.declared.form.Fault.TheVariants as Faults
-use Rattle.session_parts.specs.Ranges.{OverUpdates, first_end_past}
-use Rattle.session_parts.specs.Tickets.{OpenUpdate, IsHeldAt}
+use Rattle.range_reader.specs.Ranges.{OverUpdates, first_end_past}
+use Rattle.range_reader.proofs.JoinedRanges.{EndsWithin, each_within, none_past}
+use Rattle.client_session.specs.Tickets.{OpenUpdate, IsHeldAt}
 use Rattle.client_session.specs.Finishing.{bare, settles}
 use Rattle.client_session.specs.Memory.{IfNoMemory, IsTakenNow, AreTakenNow, IsLeft, IsHeldLeft}
 use Rattle.client_session.specs.Kept.{Coming, Found}
@@ -39,8 +40,7 @@ use Rattle.client_session.specs.Results.{desk_fault, told_of, opened_of, starved
 use Rattle.client_session.specs.Sessions.{SessionState, session_at, session_of}
 use Rattle.client_session.proofs.Finished.{numbered_there, report_said}
 use Rattle.client_session.proofs.Ranges.{read_within, told_size}
-use Rattle.client_session.proofs.ManyRanges.{within_by, each_within}
-use Rattle.session_parts.proofs.JoinedRanges.{none_of_both}
+use Rattle.client_session.proofs.RangeAnswers.{session_found, by_updates}
 use Rattle.client_session.proofs.StoreAnswers.{refusal_of_numbered}
 use Rattle.client_session.proofs.Turns.{Took, took, outcome_of_gap}
 
@@ -91,7 +91,7 @@ module _ (f : DeskFixed) (caller : ℕ) (log log' : List (ℕ × Event)) (held :
       → AreTakenNow (session_at f caller log' held next limit) blob version ranges
   ranges_taken blob version n ranges there none = record {
     there = taken_seen (Calls.Size blob version) (ap is_refused there);
-    each = λ range among. read_taken blob version range.0 range.1 n there (each_within n ranges range among none);
+    each = λ range among. read_taken blob version range.0 range.1 n there (All-contains (EndsWithin n) ranges range (each_within n ranges none) among);
   }
 
 -- ---- a version that wasn't opened
@@ -110,9 +110,6 @@ starved_none : (size : ℕ) (o : Option ℕ) → starved_fault size o ≡ Faults
 starved_none size (Some end) is = let never : ⊥ = cc in absurd never
 starved_none size None is = refl
 
-one_within : (size offset count : ℕ) → first_end_past size ((offset, count) ∷ []) ≡ None → offset + count ≤ size
-one_within size offset count none = within_by size (offset + count) (none_of_both (nat_lt size (offset + count)) (offset + count) None none).0
-
 module _ {A D : Type 0} (s s1 : SessionState D) (blob version : ℕ) where
   pub read_unread : (offset count : ℕ) (fault : OpenFault) → Coming {A = A} s blob version (Err fault) s1
       → IfNoMemory (unread_fault fault ((offset, count) ∷ [])) (IsTakenNow (session_of s1) (Calls.Read blob version offset count))
@@ -120,7 +117,7 @@ module _ {A D : Type 0} (s s1 : SessionState D) (blob version : ℕ) where
   read_unread offset count (OpenFaults.NoMemory size) o = λ is.
       subst (λ (x : Session). IsTakenNow x (Calls.Read blob version offset count)) (sym (ap session_of o.same))
       (read_taken s.store.fixed s.caller s.log s1.log s.held s.next s.limit blob version offset count size o.not_opened
-      (one_within size offset count (starved_none size (first_end_past size ((offset, count) ∷ [])) is)))
+      (none_past size (offset + count) None (starved_none size (first_end_past size ((offset, count) ∷ [])) is)).0)
 
   pub ranges_unread : (ranges : List (ℕ × ℕ)) (fault : OpenFault) → Coming {A = A} s blob version (Err fault) s1
       → IfNoMemory (unread_fault fault ranges) (AreTakenNow (session_of s1) blob version ranges)
@@ -131,32 +128,28 @@ module _ {A D : Type 0} (s s1 : SessionState D) (blob version : ℕ) where
 
 -- ---- a version that was come to
 module _ {D : Type 0} (s s1 s' : SessionState D) (blob version : ℕ) (v : Version) (o : Found s blob version v s1) (stays : s' ≡ record s1 { doors = s'.doors }) where
-  found_session : session_of s' ≡ session_at s.store.fixed s.caller s1.log s.held s.next s.limit
-  found_session = ap session_of stays ∙ ap session_of o.same
-
-  found_tells : TellUpdates v.page_size (updates_in (desk_at s.store.fixed s1.log) blob) v.rows
-  found_tells = subst (λ (p : ℕ). TellUpdates p (updates_in (desk_at s.store.fixed s1.log) blob) v.rows) (sym o.snapshot.page_size) o.snapshot.tells
-
-  -- its size, by the updates that its rows tell
-  found_size : size_of (updates_in (desk_at s.store.fixed s1.log) blob) (length v.rows) ≡ o.size
-  found_size = ap (size_of (updates_in (desk_at s.store.fixed s1.log) blob)) o.snapshot.rows ∙ sym (told_size s.store.fixed s1.log s.caller blob version o.size o.done)
+  -- its size, by the blob's updates
+  found_size : size_of (updates_in (desk_at s.store.fixed s1.log) blob) version ≡ o.size
+  found_size = sym (told_size s.store.fixed s1.log s.caller blob version o.size o.done)
 
   pub found_within : (offset count : ℕ) (said : Result (List ℕ) Fault) → OverUpdates v (λ us. IfErr said (λ fault. IfNoMemory fault (offset + count ≤ size_of us (length v.rows))))
       → IfErr said (λ fault. IfNoMemory fault (IsTakenNow (session_of s') (Calls.Read blob version offset count)))
   found_within offset count (Ok bytes) within = tt
   found_within offset count (Err fault) within = λ is.
-      subst (λ (x : Session). IsTakenNow x (Calls.Read blob version offset count)) (sym found_session)
+      subst (λ (x : Session). IsTakenNow x (Calls.Read blob version offset count)) (sym (session_found s s1 blob version v o s' stays))
       (read_taken s.store.fixed s.caller s.log s1.log s.held s.next s.limit blob version offset count o.size o.done
-      (subst (λ (n : ℕ). offset + count ≤ n) found_size (within (updates_in (desk_at s.store.fixed s1.log) blob) found_tells is)))
+      (subst (λ (n : ℕ). offset + count ≤ n) found_size
+      (by_updates s s1 blob version v o s1.log refl (λ p us n. IfNoMemory fault (offset + count ≤ size_of us n)) within is)))
 
   pub found_all_within : (ranges : List (ℕ × ℕ)) (said : Result (List ℕ) Fault)
       → OverUpdates v (λ us. IfErr said (λ fault. IfNoMemory fault (first_end_past (size_of us (length v.rows)) ranges ≡ None)))
       → IfErr said (λ fault. IfNoMemory fault (AreTakenNow (session_of s') blob version ranges))
   found_all_within ranges (Ok bytes) within = tt
   found_all_within ranges (Err fault) within = λ is.
-      subst (λ (x : Session). AreTakenNow x blob version ranges) (sym found_session)
+      subst (λ (x : Session). AreTakenNow x blob version ranges) (sym (session_found s s1 blob version v o s' stays))
       (ranges_taken s.store.fixed s.caller s.log s1.log s.held s.next s.limit blob version o.size ranges o.done
-      (subst (λ (n : ℕ). first_end_past n ranges ≡ None) found_size (within (updates_in (desk_at s.store.fixed s1.log) blob) found_tells is)))
+      (subst (λ (n : ℕ). first_end_past n ranges ≡ None) found_size
+      (by_updates s s1 blob version v o s1.log refl (λ p us n. IfNoMemory fault (first_end_past (size_of us n) ranges ≡ None)) within is)))
 
 -- ---- an update that is left
 -- it is, where it is numbered and isn't finished

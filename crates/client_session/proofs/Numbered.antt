@@ -25,7 +25,7 @@ use Rattle.request_form.specs.Session.{Session, outcome_at, sees}
 use Rattle.request_form.specs.Answers.{max_update}
 use Rattle.request_form.specs.declared.form.Reply.TheVariants as Replies
 use Rattle.request_form.specs.declared.form.Fault.{Fault}
-use Rattle.session_parts.specs.Tickets.{OpenUpdate}
+use Rattle.client_session.specs.Tickets.{OpenUpdate}
 use Rattle.client_session.specs.Results.{desk_fault, store_fault}
 use Rattle.client_session.specs.Sessions.{session_at}
 use Rattle.client_session.specs.Finishing.{bare}

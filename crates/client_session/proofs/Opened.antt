@@ -13,7 +13,7 @@ use Rattle.page_store.specs.Stored.{Cut, LieAmong}
 use Rattle.node_store.specs.UpdateRows.{UpdateRow}
 use Rattle.border_hints.specs.Numbered.{NumberedUpdate}
 use Rattle.border_hints.specs.Numbered.{IsValidTicket as IsWellNumbered}
-use Rattle.session_parts.specs.Tickets.{OpenUpdate}
+use Rattle.client_session.specs.Tickets.{OpenUpdate}
 use Rattle.tree_weaver.specs.Anew.{StoresNoneAnew}
 use Rattle.tree_weaver.specs.Woven.{IsWoven}
 use Rattle.version_manager.specs.Desks.{updates_in, updates_or_none, published_or_none}

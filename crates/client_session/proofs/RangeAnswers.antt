@@ -1,7 +1,7 @@
 -- What a session answers a read, by what its turn and its walk gave.
-use Rattle.std.proofs.Common.{◌≡◌, refl, sym, ◌∙◌, ap, ℕ, ◌+◌, ◌<◌, ◌≤◌, subst, List, [], ◌∷◌, ◌++◌, length, take, drop, Result, Ok, Err, Bool, true, false, Some, None, arith, inl, inr}
-use Rattle.std.specs.Prelude.{nat_lt, if◌then◌else◌, IfOk, OnOk, IfErr}
-use Rattle.std.proofs.lemmas.Bool.{ltb-true, false≢true, cases_lt}
+use Rattle.std.proofs.Common.{◌≡◌, refl, sym, ◌∙◌, ap, ℕ, ◌+◌, ◌<◌, ◌≤◌, subst, List, [], ◌∷◌, ◌++◌, length, take, drop, Result, Ok, Err, Bool, true, false, Option, Some, None, arith, inl, inr}
+use Rattle.std.specs.Prelude.{nat_lt, if◌then◌else◌, IfOk, IfErr}
+use Rattle.std.proofs.lemmas.Bool.{ltb-true, cases_lt}
 use Rattle.faults.specs.Counts.{RoseBy}
 use Rattle.blob_model.specs.Answer.{answer}
 use Rattle.blob_model.specs.Content.{Update, content, size_of}
@@ -20,37 +20,40 @@ use Rattle.version_manager.specs.declared.fault.DeskFault.TheVariants as DeskFau
 use Rattle.version_manager.specs.declared.fault.OpenFault.{OpenFault}
 use Rattle.version_manager.specs.declared.fault.OpenFault.TheVariants as OpenFaults
 use Rattle.request_form.specs.Replies.{fault_of}
-use Rattle.request_form.specs.Session.{Session}
+use Rattle.request_form.specs.Session.{Session, outcome_at}
+use Rattle.request_form.specs.Turns.{Turn, tells}
 use Rattle.request_form.specs.Answers.{AfterGap, Answers, ReadTurn, Unless, read_fault, max_read}
 use Rattle.request_form.specs.declared.form.Request.TheVariants as Requests
 use Rattle.request_form.specs.declared.form.Reply.{Reply}
 use Rattle.request_form.specs.declared.form.Reply.TheVariants as Replies
 use Rattle.request_form.specs.declared.form.Fault.{Fault}
 use Rattle.request_form.specs.declared.form.Fault.TheVariants as Faults
-use Rattle.session_parts.specs.declared.reading.RangeFault.{RangeFault}
-use Rattle.session_parts.specs.declared.reading.RangeFault.TheVariants as RangeFaults
-use Rattle.session_parts.specs.Tickets.{OpenUpdate}
-use Rattle.session_parts.specs.Ranges.{IsMet, OnRangePast, OnPageLost, first_end_past}
+use Rattle.request_form.proofs.PublishedReads.{not_below}
+use Rattle.range_reader.specs.declared.ranges.RangeFault.{RangeFault}
+use Rattle.range_reader.specs.declared.ranges.RangeFault.TheVariants as RangeFaults
+use Rattle.client_session.specs.Tickets.{OpenUpdate}
+use Rattle.range_reader.specs.Ranges.{OverUpdates, RangeAnswers, first_end_past}
+use Rattle.range_reader.proofs.Parts.{length_part}
 use Rattle.client_session.specs.Results.{open_fault, opened_of, starved_fault, unread_fault, range_of, read_reply}
 use Rattle.client_session.specs.Opening.{Opening, NotOpened, RangeCause, ReadsRange}
 use Rattle.client_session.specs.Memory.{IfNoMemory}
 use Rattle.client_session.specs.Kept.{Coming, Found}
 use Rattle.client_session.specs.Sessions.{SessionState, session_at, session_of}
-use Rattle.client_session.proofs.Turns.{Took, outcome_of_gap, seen_gap}
-use Rattle.client_session.proofs.Ranges.{read_refused, read_past, read_within, count_within, not_below, told_size}
+use Rattle.client_session.proofs.Turns.{Took, outcome_of_gap, then_told}
+use Rattle.client_session.proofs.Ranges.{read_refused, read_past, read_within, told_size}
 
 -- ---- the count of faults
 pub rose_none : (n a b : ℕ) → n ≡ 0 → a ≤ b → RoseBy n a b
 rose_none n a b none le = record { later = le; by = λ few. omega arith }
 
-none_unless : (x : Bool) (fault : Fault) (s : Session) (reply : Reply) (s' : Session) (Answer : Type 0) → x ≡ false → Answer → Unless (if x then Some fault else None) s reply s' Answer
-none_unless true fault s reply s' Answer is answer = absurd (false≢true (sym is))
-none_unless false fault s reply s' Answer is answer = answer
-
 -- the session itself doesn't refuse it
+pub unless_none : (o : Option Fault) (s : Session) (reply : Reply) (s' : Session) (Answer : Type 0) → o ≡ None → Answer → Unless o s reply s' Answer
+unless_none None s reply s' Answer is answer = answer
+unless_none (Some fault) s reply s' Answer is answer = cc
+
 pub few_enough : (s : Session) (count : ℕ) (reply : Reply) (s' : Session) (Answer : Type 0) → count ≤ max_read → Answer → Unless (read_fault count) s reply s' Answer
 few_enough s count reply s' Answer few answer =
-    none_unless (nat_lt max_read count) (Faults.ReadTooLong count) s reply s' Answer (not_below (nat_lt max_read count) max_read count (ltb-true max_read count) few) answer
+    unless_none (read_fault count) s reply s' Answer (rw (not_below max_read count few) refl) answer
 
 -- the same result of a range
 abbrev pub IsThat : Result (List ℕ) RangeFault → Result (List ℕ) RangeFault → Type 0
@@ -64,21 +67,21 @@ same_range end size end' size' e =
     cc
 
 -- the walk gave the range, or told why not
-pub reads_range : (p version offset count : ℕ) (us : List Update) (r : Result (List ℕ) RangeFault) → count ≤ max_read
-    → IfOk r (λ bytes. bytes ≡ take count (drop offset (content us version))) → OnOk r (offset + count ≤ size_of us version)
-    → (size_of us version < offset + count → IsThat r (Err (RangeFaults.RangePastSize (offset + count) (size_of us version))))
-    → IfErr r (λ fault. OnRangePast fault (size_of us version < offset + count)) → IfErr r (λ fault. OnPageLost fault (λ _. offset + count ≤ size_of us version))
-    → IfErr r (λ fault. OnPageLost fault (IsMet p offset count)) → ReadsRange p us version offset count (range_of r)
-reads_range p version offset count us (Ok bytes) few is within refused past lost met = record { bytes = is; few = few; within = within; cause = tt }
-reads_range p version offset count us (Err (RangeFaults.RangePastSize end size)) few is within refused past lost met =
-    record { bytes = tt; few = tt; within = tt; cause = RangeCause.past (same_range end size (offset + count) (size_of us version) (refused past)) few past }
-reads_range p version offset count us (Err (RangeFaults.PageFault page)) few is within refused past lost met =
-    record { bytes = tt; few = tt; within = tt; cause = RangeCause.lost page refl few lost met }
-reads_range p version offset count us (Err RangeFaults.NoMemory) few is within refused past lost met =
+pub reads_range : (v : Version) (offset count : ℕ) (before now : List ℕ) (sum_before sum_now : ℕ) (us : List Update) → TellUpdates v.page_size us v.rows → (r : Result (List ℕ) RangeFault)
+    → count ≤ max_read → IfOk r (λ bytes. bytes ≡ take count (drop offset (content us (length v.rows)))) → RangeAnswers v offset count before now sum_before sum_now r
+    → ReadsRange v.page_size us (length v.rows) offset count (range_of r)
+reads_range v offset count before now sum_before sum_now us tells (Ok bytes) few is a = record { bytes = is; few = few; within = a.within us tells; cause = tt }
+reads_range v offset count before now sum_before sum_now us tells (Err (RangeFaults.RangePastSize end size)) few is a =
+    let past : size_of us (length v.rows) < offset + count = a.past us tells in
+    let is : Faults.RangePastSize end size ≡ Faults.RangePastSize (offset + count) (size_of us (length v.rows)) = same_range _ _ _ _ (a.refused us tells past) in
+    record { bytes = tt; few = tt; within = tt; cause = RangeCause.past is few past }
+reads_range v offset count before now sum_before sum_now us tells (Err (RangeFaults.PageFault page)) few is a =
+    record { bytes = tt; few = tt; within = tt; cause = RangeCause.lost page refl few (a.lost_within us tells) a.page }
+reads_range v offset count before now sum_before sum_now us tells (Err RangeFaults.NoMemory) few is a =
     record { bytes = tt; few = tt; within = tt; cause = RangeCause.no_memory refl }
 
 -- where it isn't read for want of memory, it lies within the size
-not_that : (end size : ℕ) → IsThat (Err RangeFaults.NoMemory) (Err (RangeFaults.RangePastSize end size)) → ⊥
+pub not_that : (end size : ℕ) → IsThat (Err RangeFaults.NoMemory) (Err (RangeFaults.RangePastSize end size)) → ⊥
 not_that end size e = cc
 
 pub range_starved : (size end : ℕ) (r : Result (List ℕ) RangeFault) → (size < end → IsThat r (Err (RangeFaults.RangePastSize end size)))
@@ -138,82 +141,55 @@ opening_told s log' blob version (Err fault) t = record {
   refused = not_opened_for s.store.fixed log' s.caller blob version fault (not_opened_told s.store.fixed s.caller s.log log' blob version (Err fault) t);
 }
 
-not_both : (r : Refusal) (bytes : List ℕ) → Outcomes.Refused r ≡ Outcomes.Content bytes → ⊥
-not_both r bytes e = cc
-
 -- a turn that left the history as it found it
-module _ (f : DeskFixed) (caller : ℕ) (log log' gap : List (ℕ × Event)) (others : AllOther caller (events gap)) (same : log' ≡ log ++ gap) (held : List OpenUpdate) (next limit blob version offset count : ℕ) where
+module _ (f : DeskFixed) (caller : ℕ) (log log' gap : List (ℕ × Event)) (others : AllOther caller (events gap)) (same : log' ≡ log ++ gap)
+    (held : List OpenUpdate) (next limit blob version offset count : ℕ) where
+  abbrev May : List Event → Turn → Type 0
+  May = ReadTurn (session_at f caller log held next limit) blob version offset count
+
+  abbrev Says : Reply → Type 0
+  Says reply = AfterGap AllOther (session_at f caller log held next limit) May reply (session_at f caller log' held next limit)
+
+  then_says : (told reply : Reply) → May (events gap) (tells told) → reply ≡ told → Says reply
+  then_says told reply may said = then_told f caller log log' gap held next limit May told reply others same may said
+
+  -- what the store answers then
+  outcome_is : outcome_at (session_at f caller log held next limit) (events gap) (Calls.Read blob version offset count) ≡ outcome_in f (log ++ gap) caller (Calls.Read blob version offset count)
+  outcome_is = outcome_of_gap f caller log log' gap held next limit (Calls.Read blob version offset count)
+
   -- the version isn't there
-  refused_read : (r : Refusal) → outcome_in f (log ++ gap) caller (Calls.Size blob version) ≡ Outcomes.Refused r
-      → AfterGap AllOther (session_at f caller log held next limit) (ReadTurn (session_at f caller log held next limit) blob version offset count) (Replies.Refused (fault_of r)) (session_at f caller log' held next limit)
-  refused_read r e =
-      record {
-        others = events gap;
-        is_gap = others;
-        turn = _;
-        may = ReadTurn.refused r (outcome_of_gap f caller log log' gap held next limit (Calls.Read blob version offset count) ∙ read_refused f (log ++ gap) caller blob version offset count r e);
-        said = refl;
-        seen = seen_gap f caller log log' gap held next limit same;
-      }
+  refused_read : (r : Refusal) → outcome_in f (log ++ gap) caller (Calls.Size blob version) ≡ Outcomes.Refused r → Says (Replies.Refused (fault_of r))
+  refused_read r e = then_says _ _ (ReadTurn.refused r (outcome_is ∙ read_refused f (log ++ gap) caller blob version offset count r e)) refl
 
   -- the version is there, with so many bytes
   module _ (n : ℕ) (there : outcome_in f (log ++ gap) caller (Calls.Size blob version) ≡ Outcomes.Size n) where
-    -- the bytes of the range
-    pub content_read : (bytes : List ℕ) → offset + count ≤ size_of (updates_in (desk_at f (log ++ gap)) blob) version
-        → bytes ≡ take count (drop offset (content (updates_in (desk_at f (log ++ gap)) blob) version))
-        → AfterGap AllOther (session_at f caller log held next limit) (ReadTurn (session_at f caller log held next limit) blob version offset count) (Replies.Content bytes) (session_at f caller log' held next limit)
-    content_read bytes within is =
-        record {
-          others = events gap;
-          is_gap = others;
-          turn = _;
-          may = ReadTurn.content bytes
-              (outcome_of_gap f caller log log' gap held next limit (Calls.Read blob version offset count)
-              ∙ (read_within f (log ++ gap) caller blob version offset count n there within ∙ ap Outcomes.Content (sym is)));
-          said = refl;
-          seen = seen_gap f caller log log' gap held next limit same;
-        }
+    abbrev updates : List Update
+    updates = updates_in (desk_at f (log ++ gap)) blob
+
+    within : offset + count ≤ size_of updates version
+        → outcome_at (session_at f caller log held next limit) (events gap) (Calls.Read blob version offset count) ≡ Outcomes.Content (take count (drop offset (content updates version)))
+    within inside = outcome_is ∙ read_within f (log ++ gap) caller blob version offset count n there inside
 
     -- a range that was not read
-    failed_read : (fault : Fault) → count ≤ max_read → RangeCause f.page_size (updates_in (desk_at f (log ++ gap)) blob) version offset count fault
-        → AfterGap AllOther (session_at f caller log held next limit) (ReadTurn (session_at f caller log held next limit) blob version offset count) (Replies.Refused fault) (session_at f caller log' held next limit)
+    failed_read : (fault : Fault) → count ≤ max_read → RangeCause f.page_size updates version offset count fault → Says (Replies.Refused fault)
     failed_read fault few (RangeCause.too_long is long) = absurd (omega (arith, few, long))
     failed_read fault few (RangeCause.past is few' past) =
-        record {
-          others = events gap;
-          is_gap = others;
-          turn = _;
-          may = ReadTurn.refused (Refusals.RangePastSize (offset + count) (size_of (updates_in (desk_at f (log ++ gap)) blob) version))
-              (outcome_of_gap f caller log log' gap held next limit (Calls.Read blob version offset count) ∙ read_past f (log ++ gap) caller blob version offset count n there past);
-          said = ap Replies.Refused is;
-          seen = seen_gap f caller log log' gap held next limit same;
-        }
-    failed_read fault few (RangeCause.lost page is few' within met) =
-        let bytes : List ℕ = take count (drop offset (content (updates_in (desk_at f (log ++ gap)) blob) version)) in
-        let some : 0 < length bytes = omega (arith, count_within (content (updates_in (desk_at f (log ++ gap)) blob) version) offset count within, met.some) in
-        record {
-          others = events gap;
-          is_gap = others;
-          turn = _;
-          may = ReadTurn.not_read bytes
-              (outcome_of_gap f caller log log' gap held next limit (Calls.Read blob version offset count) ∙ read_within f (log ++ gap) caller blob version offset count n there within) some page
-              (record { begins = met.begins; ends = met.ends });
-          said = ap Replies.Refused is;
-          seen = seen_gap f caller log log' gap held next limit same;
-        }
-    failed_read fault few (RangeCause.no_memory is) =
-        record { others = events gap; is_gap = others; turn = _; may = ReadTurn.out_of_memory; said = ap Replies.Refused is; seen = seen_gap f caller log log' gap held next limit same }
+        let refusal : Refusal = Refusals.RangePastSize (offset + count) (size_of updates version) in
+        then_says _ _ (ReadTurn.refused refusal (outcome_is ∙ read_past f (log ++ gap) caller blob version offset count n there past)) (ap Replies.Refused is)
+    failed_read fault few (RangeCause.lost page is few' inside met) =
+        let bytes : List ℕ = take count (drop offset (content updates version)) in
+        let some : 0 < length bytes = omega (arith, length_part (content updates version) offset count inside, met.some) in
+        then_says _ _ (ReadTurn.not_read bytes (within inside) some page (record { begins = met.begins; ends = met.ends })) (ap Replies.Refused is)
+    failed_read fault few (RangeCause.no_memory is) = then_says _ _ ReadTurn.out_of_memory (ap Replies.Refused is)
 
     -- what a range of the opened version gives
-    pub range_answer : (said : Result (List ℕ) Fault) → count ≤ max_read → ReadsRange f.page_size (updates_in (desk_at f (log ++ gap)) blob) version offset count said
-        → AfterGap AllOther (session_at f caller log held next limit) (ReadTurn (session_at f caller log held next limit) blob version offset count) (read_reply said) (session_at f caller log' held next limit)
-    range_answer (Ok bytes) few r = content_read bytes r.within r.bytes
+    pub range_answer : (said : Result (List ℕ) Fault) → count ≤ max_read → ReadsRange f.page_size updates version offset count said → Says (read_reply said)
+    range_answer (Ok bytes) few r = then_says _ _ (ReadTurn.content bytes (within r.within ∙ ap Outcomes.Content (sym r.bytes))) refl
     range_answer (Err fault) few r = failed_read fault few r.cause
 
   -- the version wasn't opened
   pub unread_answer : (fault : OpenFault) → count ≤ max_read → outcome_in f (log ++ gap) caller (Calls.Size blob version) ≡ unopened_size fault
-      → AfterGap AllOther (session_at f caller log held next limit) (ReadTurn (session_at f caller log held next limit) blob version offset count)
-      (Replies.Refused (unread_fault fault ((offset, count) ∷ []))) (session_at f caller log' held next limit)
+      → Says (Replies.Refused (unread_fault fault ((offset, count) ∷ [])))
   unread_answer (OpenFaults.Refused r) few e = refused_read r e
   unread_answer (OpenFaults.NoMemory size) few e =
       failed_read size e (starved_fault size (first_end_past size ((offset, count) ∷ []))) few
@@ -224,26 +200,37 @@ module _ (f : DeskFixed) (caller : ℕ) (log log' gap : List (ℕ × Event)) (ot
 abbrev pub seen_to : {D : Type 0} → SessionState D → List (ℕ × Event) → Session
 seen_to s log' = session_at s.store.fixed s.caller log' s.held s.next s.limit
 
+-- the version that it came to, in what it has seen then
+module _ {D : Type 0} (s s1 : SessionState D) (blob version : ℕ) (v : Version) (o : Found s blob version v s1) where
+  pub session_found : (s' : SessionState D) → s' ≡ record s1 { doors = s'.doors } → session_of s' ≡ seen_to s s1.log
+  session_found s' stays = ap session_of stays ∙ ap session_of o.same
+
+  -- what holds of all updates that its rows tell holds of the blob's, and its size is told
+  module _ (log : List (ℕ × Event)) (seen : s1.log ≡ log) where
+    pub by_updates : (P : ℕ → List Update → ℕ → Type 0) → OverUpdates v (λ us. P v.page_size us (length v.rows)) → P s.store.fixed.page_size (updates_in (desk_at s.store.fixed log) blob) version
+    by_updates P each =
+        let us : List Update = updates_in (desk_at s.store.fixed log) blob in
+        let snap : IsSnapshotOf s.store.fixed log blob version v = subst (λ (l : List (ℕ × Event)). IsSnapshotOf s.store.fixed l blob version v) seen o.snapshot in
+        let tells : TellUpdates v.page_size us v.rows = subst (λ (p : ℕ). TellUpdates p us v.rows) (sym snap.page_size) snap.tells in
+        subst (λ (p : ℕ). P p us version) snap.page_size (subst (λ (n : ℕ). P v.page_size us n) snap.rows (each us tells))
+
+    pub size_found : outcome_in s.store.fixed log s.caller (Calls.Size blob version) ≡ Outcomes.Size o.size
+    size_found = subst (λ (l : List (ℕ × Event)). outcome_in s.store.fixed l s.caller (Calls.Size blob version) ≡ Outcomes.Size o.size) seen o.done
+
 module _ {D : Type 0} (s s1 : SessionState D) (blob version offset count : ℕ) (few : count ≤ max_read) where
   pub opened_read : (s' : SessionState D) (v : Version) (said : Result (List ℕ) Fault) → Found s blob version v s1 → s' ≡ record s1 { doors = s'.doors }
       → ((us : List Update) → TellUpdates v.page_size us v.rows → ReadsRange v.page_size us (length v.rows) offset count said)
       → Answers AllOther (session_of s) (Requests.Read blob version offset count) (read_reply said) (session_of s')
   opened_read s' v said o stays reads =
       let f = s.store.fixed in
-      let us : List Update = updates_in (desk_at f (s.log ++ o.gap)) blob in
-      let snap : IsSnapshotOf f (s.log ++ o.gap) blob version v = subst (λ (l : List (ℕ × Event)). IsSnapshotOf f l blob version v) o.log o.snapshot in
-      let tells : TellUpdates v.page_size us v.rows = subst (λ (p : ℕ). TellUpdates p us v.rows) (sym snap.page_size) snap.tells in
-      let r : ReadsRange v.page_size us version offset count said = subst (λ (n : ℕ). ReadsRange v.page_size us n offset count said) snap.rows (reads us tells) in
-      let r' : ReadsRange f.page_size us version offset count said = subst (λ (p : ℕ). ReadsRange p us version offset count said) snap.page_size r in
-      let there : outcome_in f (s.log ++ o.gap) s.caller (Calls.Size blob version) ≡ Outcomes.Size o.size =
-      subst (λ (l : List (ℕ × Event)). outcome_in f l s.caller (Calls.Size blob version) ≡ Outcomes.Size o.size) o.log o.done
-      in
+      let r = by_updates s s1 blob version v o (s.log ++ o.gap) o.log (λ p us n. ReadsRange p us n offset count said) reads in
+      let there = size_found s s1 blob version v o (s.log ++ o.gap) o.log in
       let answer : AfterGap AllOther (session_of s) (ReadTurn (session_of s) blob version offset count) (read_reply said) (seen_to s s1.log) =
-      range_answer f s.caller s.log s1.log o.gap o.others o.log s.held s.next s.limit blob version offset count o.size there said few r'
+      range_answer f s.caller s.log s1.log o.gap o.others o.log s.held s.next s.limit blob version offset count o.size there said few r
       in
-      let now : session_of s' ≡ seen_to s s1.log = ap (λ (x : SessionState D). session_of x) stays ∙ ap (λ (x : SessionState D). session_of x) o.same in
+      let now = session_found s s1 blob version v o s' stays in
       subst (λ (x : Session). Answers AllOther (session_of s) (Requests.Read blob version offset count) (read_reply said) x) (sym now)
-      (few_enough (session_of s) count (read_reply said) (seen_to s s1.log) (AfterGap AllOther (session_of s) (ReadTurn (session_of s) blob version offset count) (read_reply said) (seen_to s s1.log)) few answer)
+      (few_enough (session_of s) count (read_reply said) (seen_to s s1.log) _ few answer)
 
   pub unopened_read : {A : Type 0} (fault : OpenFault) → Coming {A = A} s blob version (Err fault) s1
       → Answers AllOther (session_of s) (Requests.Read blob version offset count) (read_reply (Err (unread_fault fault ((offset, count) ∷ [])))) (session_of s1)
@@ -258,4 +245,4 @@ module _ {D : Type 0} (s s1 : SessionState D) (blob version offset count : ℕ) 
       in
       let now : session_of s1 ≡ seen_to s s1.log = ap (λ (x : SessionState D). session_of x) o.same in
       subst (λ (x : Session). Answers AllOther (session_of s) (Requests.Read blob version offset count) reply x) (sym now)
-      (few_enough (session_of s) count reply (seen_to s s1.log) (AfterGap AllOther (session_of s) (ReadTurn (session_of s) blob version offset count) reply (seen_to s s1.log)) few answer)
+      (few_enough (session_of s) count reply (seen_to s s1.log) _ few answer)

@@ -1,7 +1,7 @@
 -- What the store answers a read, by what it answers of the version's size.
-use Rattle.std.proofs.Common.{◌≡◌, refl, sym, ◌∙◌, ap, ℕ, ◌+◌, ◌<◌, ◌≤◌, Bool, true, false, List, [], ◌∷◌, length, take, drop, Option, Some, None, arith, length-take, length-drop}
+use Rattle.std.proofs.Common.{◌≡◌, refl, sym, ◌∙◌, ap, ℕ, ◌+◌, ◌<◌, ◌≤◌, Bool, true, false, List, [], ◌∷◌, take, drop, Option, Some, None, arith}
 use Rattle.std.specs.Prelude.{nat_lt}
-use Rattle.std.proofs.lemmas.Bool.{lt-ltb, ltb-true, false≢true}
+use Rattle.std.proofs.lemmas.Bool.{lt-ltb, false≢true}
 use Rattle.std.proofs.lemmas.Bool.Decides.{nat_tests}
 use Rattle.blob_model.specs.Content.{content, size_of}
 use Rattle.blob_model.specs.Store.{Store, Blob, blob_at, published}
@@ -16,6 +16,7 @@ use Rattle.version_manager.specs.Desks.{updates_or_none, updates_in}
 use Rattle.version_manager.specs.Log.{desk_at, events, outcome_in}
 use Rattle.version_manager.specs.declared.journal.DeskFixed.{DeskFixed}
 use Rattle.request_form.specs.PublishedReads.{IsPublishedIn}
+use Rattle.request_form.proofs.PublishedReads.{not_below}
 
 -- a test that refuses decides, whatever follows
 refused_first : (s : Store) (x : Bool) (r r' : Refusal) (n : ℕ) (tests : List Test) (done : Answered)
@@ -65,11 +66,6 @@ past_in s (Some b) blob version offset count n e past =
     ∙ last_refuses s (nat_lt (size_of b.updates version) (offset + count)) (Refusals.RangePastSize (offset + count) (size_of b.updates version))
     (s, Outcomes.Content (bytes_of b version offset count)) (lt-ltb (size_of b.updates version) (offset + count) past)
 
--- a test of what isn't below
-pub not_below : (x : Bool) (m n : ℕ) → (x ≡ true → m < n) → n ≤ m → x ≡ false
-not_below true m n f le = absurd (omega (arith, f refl))
-not_below false m n f le = refl
-
 within_in : (s : Store) (o : Option Blob) (blob version offset count n : ℕ) → (in_one s o blob (sized s version)).1 ≡ Outcomes.Size n → offset + count ≤ size_of (updates_or_none o) version
     → (in_one s o blob (ranged s version offset count)).1 ≡ Outcomes.Content (take count (drop offset (content (updates_or_none o) version)))
 within_in s None blob version offset count n e within = cc
@@ -77,8 +73,7 @@ within_in s (Some b) blob version offset count n e within =
     passed_first s (nat_lt (published b) version) (Refusals.NotPublished version (published b)) (size_of b.updates version) n
     (range_past_size b version offset count ∷ []) (s, Outcomes.Content (bytes_of b version offset count)) e
     ∙ last_passes s (nat_lt (size_of b.updates version) (offset + count)) (Refusals.RangePastSize (offset + count) (size_of b.updates version))
-    (s, Outcomes.Content (bytes_of b version offset count))
-    (not_below (nat_lt (size_of b.updates version) (offset + count)) (size_of b.updates version) (offset + count) (ltb-true (size_of b.updates version) (offset + count)) within)
+    (s, Outcomes.Content (bytes_of b version offset count)) (not_below (size_of b.updates version) (offset + count) within)
 
 -- ---- in the store of a history
 pub read_refused : (f : DeskFixed) (log : List (ℕ × Event)) (caller blob version offset count : ℕ) (r : Refusal) → outcome_in f log caller (Calls.Size blob version) ≡ Outcomes.Refused r
@@ -106,10 +101,6 @@ size_in_one s (Some b) blob version n e = size_by s (nat_lt (published b) versio
 pub told_size : (f : DeskFixed) (log : List (ℕ × Event)) (caller blob version n : ℕ) → outcome_in f log caller (Calls.Size blob version) ≡ Outcomes.Size n
     → n ≡ size_of (updates_in (desk_at f log) blob) version
 told_size f log caller blob version n e = size_in_one (store_of f.limits (events log)) (blob_at (store_of f.limits (events log)) blob) blob version n e
-
--- how many bytes a range within the size has
-pub count_within : (bytes : List ℕ) (offset count : ℕ) → offset + count ≤ length bytes → length (take count (drop offset bytes)) ≡ count
-count_within bytes offset count within = simp (length-take, length-drop) (omega arith)
 
 -- ---- where the version is published, and then alone, its size is told
 size_passed : (s : Store) (b : Blob) (version n : ℕ) (x : Bool) → nat_lt (published b) version ≡ x

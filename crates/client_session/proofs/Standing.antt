@@ -10,7 +10,7 @@ use Rattle.version_manager.specs.Desks.{IsTicketOf}
 use Rattle.version_manager.specs.Log.{MayFinish, desk_at}
 use Rattle.version_manager.specs.Stays.{ticket_stays, finish_stays}
 use Rattle.version_manager.specs.declared.journal.DeskFixed.{DeskFixed}
-use Rattle.session_parts.specs.Tickets.{OpenUpdate}
+use Rattle.client_session.specs.Tickets.{OpenUpdate}
 use Rattle.client_session.specs.SessionInvariant.{IsOpen, IsHolding, IsSession}
 use Rattle.client_session.specs.Sessions.{StoreState, IsPassOf, Went}
 use Rattle.client_session.specs.Finishing.{IsEquipped}

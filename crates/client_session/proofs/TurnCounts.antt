@@ -8,9 +8,9 @@ use Rattle.version_manager.specs.Log.{events, desk_at}
 use Rattle.version_manager.specs.declared.journal.DeskFixed.{DeskFixed}
 use Rattle.request_form.specs.Answers.{folds_in}
 use Rattle.request_form.specs.declared.form.Fault.{Fault}
-use Rattle.session_parts.specs.declared.done.Updated.{Updated}
-use Rattle.session_parts.specs.declared.done.Updated.TheVariants as WholeUpdates
-use Rattle.session_parts.specs.Tickets.{OpenUpdate, IsHeldAt}
+use Rattle.client_session.specs.declared.done.Updated.{Updated}
+use Rattle.client_session.specs.declared.done.Updated.TheVariants as WholeUpdates
+use Rattle.client_session.specs.Tickets.{OpenUpdate, IsHeldAt}
 use Rattle.client_session.specs.TurnCounts.{UpTo, FinishTurns, FoldTurns, UpdateTurns, DoneTurns, IsNotDone, RowTurns, HeldTurns}
 use Rattle.client_session.proofs.Folding.{folds_told}
 

@@ -22,12 +22,13 @@ use Rattle.version_manager.specs.Looks.{look_call}
 use Rattle.request_form.specs.Session.{Session, sees, outcome_at}
 use Rattle.request_form.specs.Replies.{reply_of}
 use Rattle.blob_model.specs.declared.call.Refusal.{Refusal}
-use Rattle.request_form.specs.Turns.{Turn, refuses, AfterGap}
+use Rattle.request_form.specs.Turns.{Turn, tells, refuses, AfterGap}
 use Rattle.request_form.specs.Answers.{Answers, Class, ClassAnswer, class_of}
 use Rattle.request_form.specs.Replies.{fault_of}
 use Rattle.request_form.specs.declared.form.Fault.TheVariants as Faults
+use Rattle.request_form.specs.declared.form.Reply.{Reply}
 use Rattle.request_form.specs.declared.form.Reply.TheVariants as Replies
-use Rattle.session_parts.specs.Tickets.{OpenUpdate}
+use Rattle.client_session.specs.Tickets.{OpenUpdate}
 use Rattle.client_session.specs.Looks.{look_request}
 use Rattle.client_session.specs.Results.{desk_fault}
 use Rattle.client_session.specs.Sessions.{Went, session_at}
@@ -77,6 +78,13 @@ module _ (f : DeskFixed) (caller : ℕ) (log log' : List (ℕ × Event)) where
   unfolding with_seen
   seen_gap gap held next limit is = ap (with_seen held next limit) (ap events is ∙ map-append (λ (x : ℕ × Event). x.1) log gap)
 
+  -- then a turn comes to nothing but a reply
+  pub then_told : (gap : List (ℕ × Event)) (held : List OpenUpdate) (next limit : ℕ) (May : List Event → Turn → Type 0) (told reply : Reply) → AllOther caller (events gap)
+      → log' ≡ log ++ gap → May (events gap) (tells told) → reply ≡ told
+      → AfterGap AllOther (session_at f caller log held next limit) May reply (session_at f caller log' held next limit)
+  then_told gap held next limit May told reply others is may said =
+      record { others = events gap; is_gap = others; turn = tells told; may = may; said = said; seen = seen_gap gap held next limit is }
+
   -- and after an event of its own
   pub seen_event : (gap : List (ℕ × Event)) (e : Event) (held : List OpenUpdate) (next limit : ℕ) → log' ≡ (log ++ gap) ++ tag e ∷ []
       → session_at f caller log' held next limit ≡ sees (session_at f caller log held next limit) (events gap ++ e ∷ [])
@@ -107,13 +115,6 @@ module _ (f : DeskFixed) (caller : ℕ) (log log' : List (ℕ × Event)) where
       → OnRefused fault (λ refusal. outcome_in f (log ++ gap) caller call ≡ Outcomes.Refused refusal)
       → AfterGap AllOther (session_at f caller log held next limit) May (Replies.Refused (desk_fault fault)) (session_at f caller log' held next limit)
   not_done call held next limit May refused starved gap (DeskFaults.Refused refusal) others is why =
-      record {
-        others = events gap;
-        is_gap = others;
-        turn = refuses (fault_of refusal);
-        may = refused (events gap) refusal (outcome_of_gap gap held next limit call ∙ why);
-        said = refl;
-        seen = seen_gap gap held next limit is;
-      }
+      then_told gap held next limit May _ _ others is (refused (events gap) refusal (outcome_of_gap gap held next limit call ∙ why)) refl
   not_done call held next limit May refused starved gap DeskFaults.NoMemory others is why =
-      record { others = events gap; is_gap = others; turn = refuses Faults.NoMemory; may = starved (events gap); said = refl; seen = seen_gap gap held next limit is }
+      then_told gap held next limit May _ _ others is (starved (events gap)) refl

@@ -11,12 +11,11 @@ use Rattle.tree_weaver.specs.declared.folding.WeaveFault.{WeaveFault}
 use Rattle.tree_weaver.specs.declared.folding.WeaveFault.TheVariants as WeaveFaults
 use Rattle.request_form.specs.Session.{HeldTicket}
 use Rattle.request_form.specs.declared.form.Fault.{Fault}
-use Rattle.session_parts.specs.Tickets.{OpenUpdate, HasRow, IsHeldAt, ticket_of, tickets_of}
-use Rattle.session_parts.specs.declared.done.Updated.{Updated}
-use Rattle.session_parts.specs.declared.done.Updated.TheVariants as WholeUpdates
+use Rattle.client_session.specs.Tickets.{OpenUpdate, HasRow, IsHeldAt, ticket_of, tickets_of, AllHeldStill}
+use Rattle.client_session.specs.declared.done.Updated.{Updated}
+use Rattle.client_session.specs.declared.done.Updated.TheVariants as WholeUpdates
 use Rattle.client_session.specs.Losses.{LostOrWaits}
 use Rattle.client_session.specs.Results.{store_fault, weave_fault}
-use Rattle.client_session.specs.Tickets.{AllHeldStill}
 use Rattle.client_session.specs.TurnCounts.{IsPlainRefusal, RefusedEarly}
 
 -- ---- the doors

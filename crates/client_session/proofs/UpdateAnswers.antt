@@ -29,16 +29,15 @@ use Rattle.request_form.specs.declared.form.Reply.TheVariants as Replies
 use Rattle.request_form.specs.declared.form.Fault.{Fault}
 use Rattle.request_form.specs.declared.form.Fault.TheVariants as Faults
 use Rattle.tree_weaver.specs.Anew.{StoresSomeAnew, StoresNoneAnew}
-use Rattle.session_parts.specs.Tickets.{OpenUpdate, HasRow, ticket_of}
-use Rattle.session_parts.specs.declared.done.Updated.{Updated as Whole}
-use Rattle.session_parts.specs.declared.done.Updated.TheVariants as WholeUpdates
+use Rattle.client_session.specs.Tickets.{OpenUpdate, HasRow, ticket_of, HasNoRow, AllHeldStill}
+use Rattle.client_session.specs.declared.done.Updated.{Updated as Whole}
+use Rattle.client_session.specs.declared.done.Updated.TheVariants as WholeUpdates
 use Rattle.client_session.specs.Results.{repair_reply, updated_reply}
 use Rattle.client_session.specs.Sessions.{SessionState, session_of}
 use Rattle.client_session.specs.SessionInvariant.{IsTicketHere}
 use Rattle.client_session.specs.Finishing.{bare, Finishing}
 use Rattle.client_session.specs.Looking.{looks_then}
 use Rattle.client_session.specs.Losses.{IfPageLost, LostOrWaits}
-use Rattle.client_session.specs.Tickets.{HasNoRow, AllHeldStill}
 use Rattle.client_session.specs.Updates.{WasNumbered, IsHeldNext, IsKept, held_next, update_request, start_request, update_reply, start_reply}
 use Rattle.client_session.specs.Putting.{WerePut, WerePutAlone}
 use Rattle.client_session.proofs.StoreAnswers.{IsThere, only_already, pending_waits}
@@ -47,7 +46,7 @@ use Rattle.client_session.proofs.Ended.{IsOpenIn, Then, NotFinished, then_answer
 use Rattle.client_session.proofs.Finished.{numbered_there}
 use Rattle.client_session.proofs.Folding.{folds_told}
 use Rattle.client_session.proofs.Untouched.{none_more, one_more}
-use Rattle.client_session.proofs.ManyRanges.{few_together}
+use Rattle.client_session.proofs.RangeAnswers.{unless_none}
 
 -- the session that holds one more
 pub held_more : {D : Type 0} (m m' : SessionState D) (t : NumberedUpdate) (row : Option UpdateRow) → m' ≡ record m { held = m.held ++ record { number = m.next; ticket = t; row = row } ∷ []; next = m.next + 1 }
@@ -69,11 +68,11 @@ start_by_place s blob (WriteAt offset) bytes reply s' answer = answer
 
 pub update_done : (s : Session) (blob : ℕ) (place : Place) (bytes : List ℕ) (reply : Reply) (s' : Session) → update_fault s bytes ≡ None → WholeAnswer AllOther s blob place bytes reply s'
     → Answers AllOther s (update_request blob place bytes) reply s'
-update_done s blob place bytes reply s' none answer = by_place s blob place bytes reply s' (few_together (update_fault s bytes) s reply s' _ none answer)
+update_done s blob place bytes reply s' none answer = by_place s blob place bytes reply s' (unless_none (update_fault s bytes) s reply s' _ none answer)
 
 pub start_done : (s : Session) (blob : ℕ) (place : Place) (bytes : List ℕ) (reply : Reply) (s' : Session) → update_fault s bytes ≡ None → StartAnswer AllOther s blob place bytes reply s'
     → Answers AllOther s (start_request blob place bytes) reply s'
-start_done s blob place bytes reply s' none answer = start_by_place s blob place bytes reply s' (few_together (update_fault s bytes) s reply s' _ none answer)
+start_done s blob place bytes reply s' none answer = start_by_place s blob place bytes reply s' (unless_none (update_fault s bytes) s reply s' _ none answer)
 
 -- what isn't numbered isn't done, whatever would be done
 unless_as : (Answer Other : Type 0) (o : Option Fault) (s : Session) (reply : Reply) (s' : Session) → (Answer → Other) → Unless o s reply s' Answer → Unless o s reply s' Other

@@ -8,7 +8,7 @@ use Rattle.request_form.specs.Session.{Session, HeldTicket}
 use Rattle.request_form.specs.HangUp.{GivenUp, GivesUp, GivenUpCounts, given_up_counts, tells_finished, tells_no_memory, tells_pending, tells_page_fault}
 use Rattle.request_form.specs.Replies.{fault_count}
 use Rattle.request_form.specs.declared.form.Reply.{Reply}
-use Rattle.session_parts.specs.declared.done.HangUp.{HangUp}
+use Rattle.client_session.specs.declared.done.HangUp.{HangUp}
 use Rattle.client_session.specs.Sessions.{SessionState, Continues, session_of}
 use Rattle.client_session.specs.TurnCounts.{UpTo}
 

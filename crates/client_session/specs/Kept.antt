@@ -17,8 +17,8 @@ use Rattle.version_manager.specs.declared.fault.OpenFault.{OpenFault}
 use Rattle.request_form.specs.PublishedReads.{IsPublishedIn}
 use Rattle.request_form.specs.declared.form.Fault.{Fault}
 use Rattle.request_form.specs.Replies.{page_faults}
-use Rattle.session_parts.specs.Ranges.{OverUpdates, first_end_past, visits_of, PageFailedInOne}
-pub use Rattle.session_parts.specs.Opened.{KeptVersion, Covers, kept_of, all_kept, has_opened}
+use Rattle.range_reader.specs.Ranges.{OverUpdates, first_end_past, visits_of, PageFailedInOne}
+pub use Rattle.range_reader.specs.Opened.{KeptVersion, Covers, kept_of, all_kept, has_opened}
 use Rattle.client_session.specs.Losses.{IfPageLost}
 use Rattle.client_session.specs.Memory.{IfNoMemory}
 use Rattle.client_session.specs.Opening.{ReadsRange, ReadsRanges}

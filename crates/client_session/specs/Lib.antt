@@ -1,4 +1,5 @@
 pub mod Tickets
+pub mod Limits
 pub mod TurnCounts
 pub mod Sessions
 pub mod Kept

@@ -10,10 +10,10 @@ use Rattle.request_form.specs.declared.form.Fault.{Fault}
 use Rattle.request_form.specs.declared.form.Fault.TheVariants as Faults
 use Rattle.tree_weaver.specs.Anew.{IsStoredAnew, FoldFailed}
 use Rattle.page_fan.specs.Lost.{IsFirstLost}
-use Rattle.session_parts.specs.Ranges.{PageFailedInOne}
-use Rattle.session_parts.specs.Tickets.{OpenUpdate, IsHeldAt}
-use Rattle.session_parts.specs.declared.done.Updated.{Updated}
-use Rattle.session_parts.specs.declared.done.Updated.TheVariants as WholeUpdates
+use Rattle.range_reader.specs.Ranges.{PageFailedInOne}
+use Rattle.client_session.specs.Tickets.{OpenUpdate, IsHeldAt}
+use Rattle.client_session.specs.declared.done.Updated.{Updated}
+use Rattle.client_session.specs.declared.done.Updated.TheVariants as WholeUpdates
 use Rattle.client_session.specs.Sessions.{StoreState}
 
 -- a fact on the page's number, where the fault names a page

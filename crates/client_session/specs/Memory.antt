@@ -7,7 +7,7 @@ use Rattle.request_form.specs.Session.{Session, outcome_at}
 use Rattle.request_form.specs.Answers.{IsUnfinishedAt}
 use Rattle.request_form.specs.declared.form.Fault.{Fault}
 use Rattle.request_form.specs.declared.form.Fault.TheVariants as Faults
-use Rattle.session_parts.specs.Tickets.{OpenUpdate, IsHeldAt}
+use Rattle.client_session.specs.Tickets.{OpenUpdate, IsHeldAt}
 
 -- a fact, where the fault is want of memory
 abbrev pub IfNoMemory : Fault → Type 0 → Type 0

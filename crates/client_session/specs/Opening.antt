@@ -13,7 +13,7 @@ use Rattle.version_manager.specs.declared.fault.DeskFault.{DeskFault}
 use Rattle.request_form.specs.Answers.{max_read}
 use Rattle.request_form.specs.declared.form.Fault.{Fault}
 use Rattle.request_form.specs.declared.form.Fault.TheVariants as Faults
-pub use Rattle.session_parts.specs.Ranges.{OverUpdates, IsMet, IsMetByOne, joined, first_end_past}
+pub use Rattle.range_reader.specs.Ranges.{OverUpdates, IsMet, IsMetByOne, joined, first_end_past}
 use Rattle.client_session.specs.Results.{desk_fault}
 use Rattle.client_session.specs.Sessions.{SessionState, StoreState}
 

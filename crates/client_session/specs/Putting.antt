@@ -2,7 +2,7 @@
 use Rattle.std.specs.Prelude.{◌≡◌, ℕ, Some, slice_get}
 use Rattle.border_hints.specs.Numbered.{NumberedUpdate}
 use Rattle.page_fan.specs.Put.{ArePut}
-use Rattle.session_parts.specs.Tickets.{OpenUpdate}
+use Rattle.client_session.specs.Tickets.{OpenUpdate}
 use Rattle.client_session.specs.Sessions.{SessionState}
 
 -- the update's own pages were put by the session's doors, each at the providers of its placement, and no door was called besides

@@ -1,21 +1,26 @@
 -- What a session says of the faults of the layers below, and the reply that each result of its calls is.
 use Rattle.std.specs.Prelude.{ℕ, List, Option, Some, None, Result, Ok, Err}
+use Rattle.blob_model.specs.declared.call.Place.{Place}
 use Rattle.snapshot.specs.Versions.{Version}
 use Rattle.page_fan.specs.declared.storing.StoreFault.{StoreFault}
 use Rattle.page_fan.specs.declared.storing.StoreFault.TheVariants as StoreFaults
 use Rattle.tree_weaver.specs.declared.folding.WeaveFault.{WeaveFault}
 use Rattle.tree_weaver.specs.declared.folding.WeaveFault.TheVariants as WeaveFaults
-pub use Rattle.session_parts.specs.Replies.{create_reply, branch_reply, finish_reply, read_reply, contents_reply, repair_reply, started_reply, updated_reply}
-use Rattle.session_parts.specs.Ranges.{first_end_past}
-use Rattle.session_parts.specs.declared.reading.RangeFault.{RangeFault}
-use Rattle.session_parts.specs.declared.reading.RangeFault.TheVariants as RangeFaults
+use Rattle.range_reader.specs.Ranges.{first_end_past}
+use Rattle.range_reader.specs.declared.ranges.RangeFault.{RangeFault}
+use Rattle.range_reader.specs.declared.ranges.RangeFault.TheVariants as RangeFaults
 use Rattle.version_manager.specs.declared.fault.DeskFault.{DeskFault}
 use Rattle.version_manager.specs.declared.fault.DeskFault.TheVariants as DeskFaults
 use Rattle.version_manager.specs.declared.fault.OpenFault.{OpenFault}
 use Rattle.version_manager.specs.declared.fault.OpenFault.TheVariants as OpenFaults
-use Rattle.request_form.specs.Replies.{fault_of}
+use Rattle.request_form.specs.Replies.{fault_of, update_reply, start_reply}
 use Rattle.request_form.specs.declared.form.Fault.{Fault}
 use Rattle.request_form.specs.declared.form.Fault.TheVariants as Faults
+use Rattle.request_form.specs.declared.form.Reply.{Reply}
+use Rattle.request_form.specs.declared.form.Reply.TheVariants as Replies
+use Rattle.client_session.specs.declared.done.Started.{Started}
+use Rattle.client_session.specs.declared.done.Updated.{Updated}
+use Rattle.client_session.specs.declared.done.Updated.TheVariants as WholeUpdates
 
 -- what a session says of the desk's fault
 abbrev pub desk_fault : DeskFault → Fault
@@ -67,3 +72,39 @@ range_fault RangeFaults.NoMemory = Faults.NoMemory
 abbrev pub range_of : Result (List ℕ) RangeFault → Result (List ℕ) Fault
 range_of (Ok bytes) = Ok bytes
 range_of (Err fault) = Err (range_fault fault)
+
+-- ---- the reply that each result of its calls is
+abbrev pub create_reply : Result ℕ Fault → Reply
+create_reply (Ok blob) = Replies.Created blob
+create_reply (Err fault) = Replies.Refused fault
+
+abbrev pub branch_reply : Result ℕ Fault → Reply
+branch_reply (Ok blob) = Replies.Branched blob
+branch_reply (Err fault) = Replies.Refused fault
+
+abbrev pub finish_reply : Result ℕ Fault → Reply
+finish_reply (Ok published) = Replies.Finished published
+finish_reply (Err fault) = Replies.Refused fault
+
+abbrev pub read_reply : Result (List ℕ) Fault → Reply
+read_reply (Ok bytes) = Replies.Content bytes
+read_reply (Err fault) = Replies.Refused fault
+
+abbrev pub contents_reply : Result (List ℕ) Fault → Reply
+contents_reply (Ok bytes) = Replies.Contents bytes
+contents_reply (Err fault) = Replies.Refused fault
+
+-- of an update that any session may finish
+abbrev pub repair_reply : Result ℕ Fault → Reply
+repair_reply (Ok published) = Replies.Repaired published
+repair_reply (Err fault) = Replies.Refused fault
+
+-- of an update at that place
+abbrev pub started_reply : Place → Result Started Fault → Reply
+started_reply place (Ok started) = start_reply place started.ticket started.version started.at started.size
+started_reply place (Err fault) = Replies.Refused fault
+
+abbrev pub updated_reply : Place → Result Updated Fault → Reply
+updated_reply place (Ok (WholeUpdates.Done done)) = update_reply place done.version done.at done.size
+updated_reply place (Ok (WholeUpdates.Held started)) = start_reply place started.ticket started.version started.at started.size
+updated_reply place (Err fault) = Replies.Refused fault

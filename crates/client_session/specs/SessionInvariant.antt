@@ -11,7 +11,7 @@ use Rattle.turn_lock.specs.Shown.{PassView}
 use Rattle.version_manager.specs.Desks.{IsTicketOf, updates_in}
 use Rattle.version_manager.specs.Log.{MayFinish, desk_at}
 use Rattle.version_manager.specs.declared.journal.DeskFixed.{DeskFixed}
-use Rattle.session_parts.specs.Tickets.{OpenUpdate, Rise, tickets_of}
+use Rattle.client_session.specs.Tickets.{OpenUpdate, Rise, tickets_of}
 use Rattle.client_session.specs.Sessions.{StoreState, IsPassOf}
 use Rattle.client_session.specs.Kept.{IsKept}
 

@@ -21,9 +21,9 @@ use Rattle.request_form.specs.Answers.{max_read, ranges_fault}
 use Rattle.request_form.specs.PublishedReads.{IsPublishedIn, Range, Tells, read_outcome}
 use Rattle.request_form.specs.Session.{Session, outcome_at}
 use Rattle.request_form.specs.declared.form.Reply.{Reply}
-use Rattle.session_parts.specs.Tickets.{OpenUpdate, tickets_of}
-use Rattle.session_parts.specs.Opened.{KeptVersion}
-pub use Rattle.session_parts.specs.Limits.{longest}
+use Rattle.client_session.specs.Tickets.{OpenUpdate, tickets_of}
+use Rattle.range_reader.specs.Opened.{KeptVersion}
+pub use Rattle.client_session.specs.Limits.{longest}
 
 -- a store that sessions share: the lock of its desk, what no act changes, how many providers it has, and how many replicas of a page
 pub record StoreState : Type 0 where

@@ -3,9 +3,9 @@ use Rattle.std.specs.Prelude.{◌≡◌, ◌≢◌, ⊤, [], ℕ, ◌+◌, ◌<�
 use Rattle.node_store.specs.UpdateRows.{UpdateRow}
 use Rattle.border_hints.specs.Numbered.{NumberedUpdate}
 use Rattle.tree_weaver.specs.Anew.{StoresSomeAnew, StoresNoneAnew}
-use Rattle.session_parts.specs.Tickets.{OpenUpdate, IsHeldAt}
-use Rattle.session_parts.specs.declared.done.Updated.{Updated}
-use Rattle.session_parts.specs.declared.done.Updated.TheVariants as WholeUpdates
+use Rattle.client_session.specs.Tickets.{OpenUpdate, IsHeldAt}
+use Rattle.client_session.specs.declared.done.Updated.{Updated}
+use Rattle.client_session.specs.declared.done.Updated.TheVariants as WholeUpdates
 use Rattle.request_form.specs.Replies.{page_faults}
 use Rattle.request_form.specs.declared.form.Fault.{Fault}
 use Rattle.request_form.specs.declared.form.Fault.TheVariants as Faults

@@ -18,9 +18,9 @@ use Rattle.request_form.specs.declared.form.Reply.TheVariants as Replies
 use Rattle.request_form.specs.declared.form.Fault.{Fault}
 use Rattle.request_form.specs.declared.form.Fault.TheVariants as Faults
 pub use Rattle.request_form.specs.Replies.{update_reply, start_reply}
-use Rattle.session_parts.specs.declared.done.Started.{Started as HeldUpdate}
-use Rattle.session_parts.specs.declared.done.Updated.{Updated}
-use Rattle.session_parts.specs.declared.done.Updated.TheVariants as WholeUpdates
+use Rattle.client_session.specs.declared.done.Started.{Started as HeldUpdate}
+use Rattle.client_session.specs.declared.done.Updated.{Updated}
+use Rattle.client_session.specs.declared.done.Updated.TheVariants as WholeUpdates
 use Rattle.client_session.specs.Sessions.{SessionState, session_of}
 use Rattle.client_session.specs.SessionInvariant.{IsTicketHere}
 

@@ -10,14 +10,13 @@ ghost use Rattle.request_form.specs.Answers.{Answers};
 ghost use Rattle.request_form.specs.declared.form.Request.TheVariants as Requests;
 ghost use Rattle.version_manager.specs.Log.{MayFinish, IsWaitingTicket};
 ghost use Rattle.tree_weaver.specs.Anew.{FoldFailed, StoresNoneAnew};
-ghost use Rattle.session_parts.specs.Tickets.{OpenUpdate, tickets_of};
 ghost use Rattle.tree_weaver.specs.Woven.{IsWoven};
 ghost use Rattle.client_session.specs.Losses.{IfPageLost, LostAnew, LostOfHeld};
 ghost use Rattle.client_session.specs.Memory.{IfNoMemory, IsLeft, IsHeldLeft};
 ghost use Rattle.client_session.specs.Results.{weave_fault, finish_reply, repair_reply};
 ghost use Rattle.client_session.specs.Sessions.{IsPassOf, Went, session_of, Continues};
 ghost use Rattle.client_session.specs.SessionInvariant.{IsTicketHere};
-ghost use Rattle.client_session.specs.Tickets.{HasRow, WithoutNumber, WithoutVersion};
+ghost use Rattle.client_session.specs.Tickets.{OpenUpdate, tickets_of, HasRow, WithoutNumber, WithoutVersion};
 ghost use Rattle.client_session.specs.TurnCounts.{UpTo, IsPlainRefusal, RefusedEarly, TakesTurns, FinishTurns, RowTurns, HeldTurns};
 ghost use Rattle.client_session.specs.Finishing.{bare, Finishing, settles, IsEquipped, LookedFresh, Issuing, NotWoven, IsFreshHere, weaving_faults};
 

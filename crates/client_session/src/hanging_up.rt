@@ -9,14 +9,15 @@ ghost use Rattle.request_form.specs.Replies.{fault_count};
 ghost use Rattle.client_session.specs.Results.{finish_reply};
 ghost use Rattle.client_session.specs.Sessions.{session_of, Continues};
 ghost use Rattle.client_session.specs.TurnCounts.{UpTo};
-ghost use Rattle.session_parts.specs.Tickets.{Rise, tickets_of};
+ghost use Rattle.client_session.specs.Tickets.{Rise, tickets_of};
 ghost use Rattle.client_session.specs.HangUp.{GivesUpOne, finished_seen, counts_of, counted, all_counted, tells_hindered};
 
+use crate::done::HangUp;
+use crate::limit::UpdateLimit;
 use crate::session::Session;
 use page_fan::BesideDoor;
 use ports::gate::Gate;
 use request_form::Fault;
-use session_parts::{HangUp, UpdateLimit};
 use std::sync::Wait;
 use std::thread::Threads;
 

@@ -31,22 +31,27 @@
 //! ```
 #![tactic(auto)]
 
+mod done;
 mod finishing;
 mod hanging_up;
+mod held;
 pub mod laws;
+mod limit;
 mod reading;
+mod saying;
 mod serve;
 mod session;
 mod shared;
 mod updating;
+mod waking;
 
 pub use blob_model::{Bytes, Limits, Outcome, Place};
+pub use done::{Done, HangUp, Started, Updated};
 pub use page_fan::Doors;
 pub use page_store::{PlainDoor, PlainMaker};
 pub use ports::gate::FreeGate;
 pub use request_form::{Fault, NoMemory, Reply, Request, Service};
 pub use session::Session;
-pub use session_parts::{Done, HangUp, Started, Updated};
 pub use shared::{Shared, SharedOut};
 pub use tree_geom::PageSize;
 pub use version_manager::{Look, Owner, Pass};

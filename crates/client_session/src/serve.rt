@@ -11,16 +11,16 @@ ghost use Rattle.client_session.specs.TurnCounts.{UpTo};
 ghost use Rattle.client_session.specs.Results.{read_reply, contents_reply};
 ghost use Rattle.client_session.specs.Updates.{update_request, start_request};
 
+use crate::saying::{
+    said_of_branch, said_of_contents, said_of_create, said_of_finish, said_of_read, said_of_repair,
+    said_of_start, said_of_update,
+};
 use crate::session::Session;
 use blob_model::{Bytes, Place};
 use page_fan::BesideDoor;
 use page_store::Door;
 use ports::gate::Gate;
 use request_form::{Fault, RangeList, Reply, Request, Service};
-use session_parts::{
-    said_of_branch, said_of_contents, said_of_create, said_of_finish, said_of_read, said_of_repair,
-    said_of_start, said_of_update,
-};
 use std::marker::Brand;
 use std::sync::Wait;
 use std::sync::ledger::{Blank, Ledger};

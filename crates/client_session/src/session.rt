@@ -13,7 +13,7 @@ ghost use Rattle.range_log.specs.Updates.{extents};
 ghost use Rattle.range_log.specs.Visits.{visits};
 ghost use Rattle.version_manager.specs.Desks.{unopened_size};
 ghost use Rattle.version_manager.specs.Log.{outcome_in};
-ghost use Rattle.session_parts.specs.Ranges.{OverUpdates};
+ghost use Rattle.range_reader.specs.Ranges.{OverUpdates};
 ghost use Rattle.range_reader.specs.Faults.{PageFailedIn};
 ghost use Rattle.client_session.specs.Losses.{IfPageLost, LostInRead};
 ghost use Rattle.client_session.specs.Memory.{IfNoMemory, IsTakenNow};
@@ -23,15 +23,16 @@ ghost use Rattle.client_session.specs.Kept.{all_kept, has_opened, IsViewAmong, K
 ghost use Rattle.client_session.specs.Looks.{look_request};
 ghost use Rattle.client_session.specs.Sessions.{IsPassOf, session_of, pass_of, Continues, visits_seen, NoStepIfRefused, IsSettled, AnswersAsPublished};
 
+use crate::held::Tickets;
+use crate::limit::UpdateLimit;
 use crate::shared::Shared;
 use blob_model::{Bytes, Outcome, Refusal};
 use node_store::NodeHouse;
 use page_fan::Doors;
 use page_store::Door;
 use ports::gate::Gate;
-use range_reader::{ReadRoom, ReadSource};
+use range_reader::{Opened, RangeFault, ReadRoom, ReadSource, first_past, read_range};
 use request_form::{Fault, NoMemory};
-use session_parts::{Opened, RangeFault, Tickets, UpdateLimit, first_past, read_range};
 use snapshot::{Snapshot, View};
 use std::alloc::Global;
 use std::marker::Model;

@@ -7,12 +7,12 @@ ghost use Rattle.version_manager.specs.Desks.{empty_desk};
 ghost use Rattle.version_manager.specs.Log.{tagged, fixed_of};
 ghost use Rattle.client_session.specs.Sessions.{IsPassOf, IsOwnerOf};
 
+use crate::waking::Notices;
 use blob_model::Limits;
 use node_store::NodeHouse;
 use page_store::Houses;
 use provider_manager::{LoadBook, SharedLoads};
 use request_form::NoMemory;
-use session_parts::Notices;
 use std::alloc::Global;
 use std::marker::Model;
 use std::sync::Arc;

@@ -27,6 +27,8 @@ ghost use Rattle.client_session.specs.Numbering.{LookedAhead, NotNumberedFor, Nu
 ghost use Rattle.client_session.specs.Putting.{WerePut, WerePutAlone};
 ghost use Rattle.client_session.specs.Updates.{update_request, start_request, start_reply, WasNumbered, NotNumbered, IsKept};
 
+use crate::done::{Done, Started, Updated};
+use crate::held::{MAX_TICKETS, OpenTicket};
 use crate::session::{Session, fault_of};
 use crate::shared::Shared;
 use blob_model::{Place, Refusal};
@@ -36,7 +38,6 @@ use page_fan::{BesideDoor, Doors, StoreFault, store_bytes};
 use page_store::{Door, Pages};
 use ports::gate::{Gate, Point};
 use request_form::{Fault, NoMemory};
-use session_parts::{Done, MAX_TICKETS, OpenTicket, Started, Updated};
 use std::alloc::{AllocError, Global};
 use std::sync::{Arc, Wait};
 use std::thread::Threads;

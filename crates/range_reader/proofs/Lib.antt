@@ -18,3 +18,6 @@ pub mod Blocks
 pub mod Stating
 pub mod Holding
 pub mod Descending
+pub mod ToldRanges
+pub mod JoinedRanges
+pub mod KeptPlaces

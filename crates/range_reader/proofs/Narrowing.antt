@@ -102,7 +102,8 @@ module _ (page here : List ℕ) (begin low high low' high' : ℕ) (alike : AreAl
   }
 
 -- where nothing is left, the bytes are the page's
-pub all_but_none : (page : List ℕ) (begin low high n : ℕ) (out : List ℕ) → length out ≡ n → begin + n ≤ length page → high ≤ low → AllBut page begin low high out → out ≡ slice_range page begin (begin + n)
+pub all_but_none : (page : List ℕ) (begin low high n : ℕ) (out : List ℕ) → length out ≡ n → begin + n ≤ length page → high ≤ low → AllBut page begin low high out
+    → out ≡ slice_range page begin (begin + n)
 all_but_none page begin low high n out len fits none but =
     read_all page begin n out len fits
     (λ x lt. elim (cases_lt (begin + x) low) [ inl before ↦ but.below x lt before | inr after ↦ but.above x lt (omega arith) ])

@@ -96,8 +96,8 @@ pub record LeafPieces (s : Version) (leaf : LeafAt) : Type 0 where
   pub first_in : HasPieceIn (node_of s.page_size (falls s) leaf.version (page_range s.page_size leaf.page)) leaf.parts.first.page
   pub second_in : 1 ≤ leaf.parts.second.len → HasPieceIn (node_of s.page_size (falls s) leaf.version (page_range s.page_size leaf.page)) leaf.parts.second.page
 
-pub leaf_pieces : LeavesFill → LeavesFit → PiecesFit → FoldsAre → PageBytesStay → ExtentsStand → (s : Version) → IsVersion s → (leaf : LeafAt) → HasNodeFor s leaf.version (page_range s.page_size leaf.page)
-    → IsLeafOf s leaf.version leaf.page leaf.parts → LeafPieces s leaf
+pub leaf_pieces : LeavesFill → LeavesFit → PiecesFit → FoldsAre → PageBytesStay → ExtentsStand → (s : Version) → IsVersion s → (leaf : LeafAt)
+    → HasNodeFor s leaf.version (page_range s.page_size leaf.page) → IsLeafOf s leaf.version leaf.page leaf.parts → LeafPieces s leaf
 leaf_pieces fill fit pieces folds stay stand s is leaf has parts =
     let j : ℕ = leaf.version in
     let i : ℕ = leaf.page in

@@ -3,3 +3,5 @@ pub mod Reading
 pub mod Faults
 pub mod Holders
 pub mod Answers
+pub mod Ranges
+pub mod Opened

@@ -20,7 +20,7 @@ use Rattle.request_form.specs.declared.form.Request.TheVariants as Requests
 use Rattle.request_form.specs.declared.form.Reply.TheVariants as Replies
 use Rattle.request_form.specs.declared.form.Fault.{Fault}
 use Rattle.request_form.specs.declared.form.Fault.TheVariants as Faults
-use Rattle.session_parts.specs.declared.done.Updated.{Updated as Told}
+use Rattle.client_session.specs.declared.done.Updated.{Updated as Told}
 use Rattle.client_session.specs.Results.{finish_reply, updated_reply}
 use Rattle.workload_law.specs.Ends.{IsOutside, IsPageOf, Holds, ticket_of, still_held}
 use Rattle.workload_law.proofs.Lost.{outside_as, fold_within}

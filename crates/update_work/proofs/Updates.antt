@@ -19,8 +19,8 @@ use Rattle.request_form.specs.declared.form.Reply.{Reply}
 use Rattle.request_form.specs.declared.form.Reply.TheVariants as Replies
 use Rattle.request_form.specs.declared.form.Fault.{Fault}
 use Rattle.request_form.specs.declared.form.Fault.TheVariants as Faults
-use Rattle.session_parts.specs.declared.done.Updated.{Updated as Told}
-use Rattle.session_parts.specs.declared.done.Updated.TheVariants as WholeUpdates
+use Rattle.client_session.specs.declared.done.Updated.{Updated as Told}
+use Rattle.client_session.specs.declared.done.Updated.TheVariants as WholeUpdates
 use Rattle.client_session.specs.Results.{updated_reply}
 use Rattle.client_session.specs.Updates.{update_reply, start_reply}
 use Rattle.workload_law.specs.Ends.{Leaves, Holds, StopsAt, UpdateHindered, UpdateEnds, UpdatesEnd, LeavesAdd, StopsLater, HoldsLater, LooksLeaveNone, ticket_of}

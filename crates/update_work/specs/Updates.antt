@@ -10,8 +10,8 @@ use Rattle.request_form.specs.Answers.{max_update}
 use Rattle.request_form.specs.Replies.{page_faults}
 use Rattle.request_form.specs.declared.form.Fault.{Fault}
 use Rattle.request_form.specs.declared.form.Fault.TheVariants as Faults
-use Rattle.session_parts.specs.declared.done.Updated.{Updated}
-use Rattle.session_parts.specs.declared.done.Updated.TheVariants as WholeUpdates
+use Rattle.client_session.specs.declared.done.Updated.{Updated}
+use Rattle.client_session.specs.declared.done.Updated.TheVariants as WholeUpdates
 use Rattle.client_session.specs.Sessions.{SessionState, Continues, session_of}
 use Rattle.faults.specs.Counts.{RoseBy}
 use Rattle.workload_law.specs.Ends.{Leaves, Holds, UpdateHindered, StopsAt, ticket_of, still_held}

@@ -1,6 +1,6 @@
 use Rattle.std.proofs.Common.{◌≡◌, ◌+◌, ◌≤◌, drop}
 use Rattle.request_form.specs.Answers.{ranges_fault}
-use Rattle.session_parts.specs.Ranges.{bytes_in}
+use Rattle.range_reader.specs.Ranges.{bytes_in}
 use Rattle.client_session.proofs.reading.total.Given as goal
 
 abbrev pub invariant-loop-range : goal.invariant-loop-range

@@ -1,6 +1,6 @@
 use Rattle.std.proofs.Common.{subst}
 use Rattle.std.specs.Prelude.{IfSome}
-use Rattle.session_parts.specs.Opened.{Covers}
+use Rattle.range_reader.specs.Opened.{Covers}
 use Rattle.client_session.proofs.session.kept_view.Goals as goal
 
 pub returns : goal.returns

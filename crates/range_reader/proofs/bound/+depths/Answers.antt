@@ -97,7 +97,8 @@ pub depths-back-requires : goal.depths-back-requires
 depths-back-requires g t c κs within =
     let of = node g t (goal.at.depths-back-requires g t c).After-halves in
     let next = of.right_newest (omega (arith, c.requires.valid, c.requires.some, c.if-end-high.false)) in
-    (search rules, (within, (c.requires.here, (next.0, (next.1, (search rules, (omega (arith, of.ends, c.requires.ends, c.if-high-from.false, c.if-end-high.false), (search rules, (search rules, search rules)))))))))
+    (search rules, (within, (c.requires.here, (next.0, (next.1, (search rules,
+    (omega (arith, of.ends, c.requires.ends, c.if-high-from.false, c.if-end-high.false), (search rules, (search rules, search rules)))))))))
 
 pub returns-clause-depths : goal.returns-clause-depths
 returns-clause-depths g t c =

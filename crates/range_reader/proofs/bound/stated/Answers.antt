@@ -17,7 +17,9 @@ depths-backs-requires-clause-newest g c =
     let key = ap (λ (k : NodeKey). k.range) c.in-Some.ensures.key in
     let some : 1 ≤ size_now s = not_zero (size_now s) (λ e. let w : true ≡ false = c.in-Some.ensures.none.1 e in cc) in
     let N : Version → Type 0 = λ v. c.version-version.result ≡ newest_in v c.in-Some.root.range in
-    subst N (sym c.view-view.ensures) (c.version-version.ensures.count ∙ root_newest c.page_bytes_stay.ensures.extents s is c.links_find.ensures.roots c.newest_is_greatest.ensures.greatest c.in-Some.root.range some key)
+    subst N (sym c.view-view.ensures)
+    (c.version-version.ensures.count
+    ∙ root_newest c.page_bytes_stay.ensures.extents s is c.links_find.ensures.roots c.newest_is_greatest.ensures.greatest c.in-Some.root.range some key)
 
 pub depths-backs-requires-clause-has : goal.depths-backs-requires-clause-has
 depths-backs-requires-clause-has g c =

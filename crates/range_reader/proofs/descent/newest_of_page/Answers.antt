@@ -42,8 +42,8 @@ link_toward-on-requires-clause-has g c =
     subst P (sym c.loop-level.invariant.row) over.has
 
 -- the way goes on by the link
-below : (step : LinksStep) (stand : ExtentsStand) (low : LowHalvesAlign) (high : HighHalvesAlign) (s : Version) → IsVersion s → (page h at on : ℕ) (row : RowIn) → page * s.page_size < size_now s → 0 < h
-    → row ≡ record { version = s; update = at } → IsOver s page h at
+below : (step : LinksStep) (stand : ExtentsStand) (low : LowHalvesAlign) (high : HighHalvesAlign) (s : Version) → IsVersion s → (page h at on : ℕ) (row : RowIn)
+    → page * s.page_size < size_now s → 0 < h → row ≡ record { version = s; update = at } → IsOver s page h at
     → on ≡ newest_of row.version.page_size (log_of row.version) row.update (tree_range row.version.page_size (h - 1) (page / 2 ^ (h - 1))) → IsOver s page (h - 1) on
 below step stand low high s is page h at on row inside some here over link =
     let e = ap (λ (r : RowIn). newest_of r.version.page_size (log_of r.version) r.update (tree_range r.version.page_size (h - 1) (page / 2 ^ (h - 1)))) here in
@@ -64,8 +64,9 @@ loop-level-preserved-then-on-at g c =
     record {
       row = c.row_of-row-then-on-at.ensures;
       over =
-          below c.links_step.ensures.step c.page_bytes_stay.ensures.extents c.ranges_align.ensures.low c.ranges_align.ensures.high c.args.snapshot.now c.version-at.ensures.stands c.args.page c.loop-level.level
-          c.loop-level.at c.link_toward-on.result c.loop-level.row c.requires.valid (omega (arith, c.loop-level-test.true)) inv.row inv.over c.link_toward-on.ensures.link;
+          below c.links_step.ensures.step c.page_bytes_stay.ensures.extents c.ranges_align.ensures.low c.ranges_align.ensures.high c.args.snapshot.now
+          c.version-at.ensures.stands c.args.page c.loop-level.level c.loop-level.at c.link_toward-on.result c.loop-level.row c.requires.valid
+          (omega (arith, c.loop-level-test.true)) inv.row inv.over c.link_toward-on.ensures.link;
       counted = omega (arith, inv.counted, c.link_toward-on.ensures.step, c.loop-level-test.true);
     }
 

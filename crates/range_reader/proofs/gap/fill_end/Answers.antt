@@ -58,7 +58,9 @@ pub returns-clause-narrowed : goal.returns-clause-narrowed
 returns-clause-narrowed g c = λ all.
     let met = c.meets.ensures.0 c.if-not-meets.false in
     let later : c.args.gap.low < c.args.leaf.parts.start = omega (arith, c.max-from.ensures, c.if-from-gap.false) in
-    let long = to_end c.args.gap.low c.args.gap.high c.args.leaf.parts.start (c.args.leaf.parts.start + (c.args.leaf.parts.first.len + c.args.leaf.parts.second.len)) (λ x y. c.requires.end (x, y)) later in
+    let long =
+    to_end c.args.gap.low c.args.gap.high c.args.leaf.parts.start (c.args.leaf.parts.start + (c.args.leaf.parts.first.len + c.args.leaf.parts.second.len))
+    (λ x y. c.requires.end (x, y)) later in
     narrowed_end (page_in c.args.source.now.view.now c.args.leaf.version c.args.leaf.page) c.args.begin c.max-from.result c.min-to.result c.args.out.now c.take_leaf.new.out
     (omega (arith, c.max-from.ensures, c.requires.low))
     (omega (arith, c.max-from.ensures, c.min-to.ensures, c.end.ensures, met.0, met.1, c.requires.some))

@@ -24,7 +24,8 @@ pub newest_of_page-newest-requires-clause-valid : goal.newest_of_page-newest-req
 newest_of_page-newest-requires-clause-valid g c =
     let s = c.args.snapshot.now in
     let size = c.bytes-bytes.ensures.is ∙ c.page_size-page_size.ensures in
-    let lt : c.args.at / c.bytes-bytes.result * s.page_size < size_now s = omega (arith, ap (λ n. c.args.at / n * s.page_size) size, down c.args.at s.page_size, c.if-size-at.false, c.size-size.ensures.size) in
+    let lt : c.args.at / c.bytes-bytes.result * s.page_size < size_now s =
+    omega (arith, ap (λ n. c.args.at / n * s.page_size) size, down c.args.at s.page_size, c.if-size-at.false, c.size-size.ensures.size) in
     let P : Version → Type 0 = λ v. c.args.at / c.bytes-bytes.result * v.page_size < size_now v in
     subst P (sym c.view-view.ensures) lt
 

@@ -206,7 +206,9 @@ loop-parts-preserved g c =
       led = subst L (sym back) (Back at inv.led to.some);
       leaf = c.leaf-parts.ensures.leaf;
       ahead = omega (arith, inv.ahead, backs.1 to.some, ap (λ j. backs_of p xs j i) back, c.leaf-parts.ensures.step);
-      there = λ all. but_after page here c.args.begin gap.low gap.high left.low left.high inv.alike within.0 within.2 out out' count within.1 (inv.there all) (c.in-Some.ensures.narrowed (inv.truth all));
+      there = λ all.
+          but_after page here c.args.begin gap.low gap.high left.low left.high inv.alike within.0 within.2 out out' count within.1 (inv.there all)
+          (c.in-Some.ensures.narrowed (inv.truth all));
       alike = subst A (sym back) alike;
       kept = kept_twice _ _ _ _ _ _ inv.kept c.fill_end.ensures.kept;
       count = c.fill_end.ensures.count ∙ inv.count;

@@ -80,7 +80,8 @@ returns-clause-overlaid g c = λ all ok.
     let a = leaf.parts.first.len in
     let piece = leaf.parts.second in
     let second = overlaid_in (leaf.parts.start + a) piece.len piece.from (begins + a) c.args.begin (stored_bytes s leaf.version piece.page) page
-    c.fill_piece.new.marks c.fill_piece.new.out c.fill_piece-2.new.out (of.second (omega (arith, c.if-parts-eq0.false))).same (c.fill_piece-2.ensures.overlaid (c.fill_piece.ensures.truth_stays all) ok) in
+    c.fill_piece.new.marks c.fill_piece.new.out c.fill_piece-2.new.out (of.second (omega (arith, c.if-parts-eq0.false))).same
+    (c.fill_piece-2.ensures.overlaid (c.fill_piece.ensures.truth_stays all) ok) in
     overlaid_same _ _ _ _ _ _ c.args.begin page c.args.marks.now c.args.out.now c.fill_piece-2.new.out c.requires.leaf.start of.lens refl
     (overlaid_twice leaf.parts.start a piece.len begins c.args.begin page c.args.marks.now c.fill_piece.new.marks c.fill_piece-2.new.marks
     c.args.out.now c.fill_piece.new.out c.fill_piece-2.new.out c.fill_piece.auto.out c.requires.marked c.fill_piece.auto.marks

@@ -23,13 +23,15 @@ returns-then-not-meets-clause-overlaid g c = λ all some.
     let s = c.args.source.now.view.now in
     let st = own_start s c.args.leaf.version c.args.leaf.page in
     let rest = (goal.at.returns-then-not-meets-clause-overlaid g c).Then-not-meets in
-    overlaid_none st (own_len s c.args.leaf.version c.args.leaf.page) st c.args.begin (page_in s c.args.leaf.version c.args.leaf.page) c.args.marks.now c.args.out.now (apart g rest (length c.args.out.now) refl)
+    overlaid_none st (own_len s c.args.leaf.version c.args.leaf.page) st c.args.begin (page_in s c.args.leaf.version c.args.leaf.page) c.args.marks.now c.args.out.now
+    (apart g rest (length c.args.out.now) refl)
 
 pub returns-then-not-meets-clause-taken : goal.returns-then-not-meets-clause-taken
 returns-then-not-meets-clause-taken g c = λ some.
     let s = c.args.source.now.view.now in
     let rest = (goal.at.returns-then-not-meets-clause-taken g c).Then-not-meets in
-    taken_none (own_start s c.args.leaf.version c.args.leaf.page) (own_len s c.args.leaf.version c.args.leaf.page) c.args.begin c.args.marks.now (apart g rest (length c.args.marks.now) c.requires.marked)
+    taken_none (own_start s c.args.leaf.version c.args.leaf.page) (own_len s c.args.leaf.version c.args.leaf.page) c.args.begin c.args.marks.now
+    (apart g rest (length c.args.marks.now) c.requires.marked)
 
 pub returns-then-not-meets-clause-kept : goal.returns-then-not-meets-clause-kept
 returns-then-not-meets-clause-kept g c = kept_yet _ _

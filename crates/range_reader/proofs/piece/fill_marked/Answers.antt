@@ -25,7 +25,8 @@ loop-first-preserved g c =
       within = omega (arith, whole, next.ensures.most, c.requires.marked, kept);
       found = λ lt. next.ensures.found (omega (arith, whole, lt, c.requires.marked, kept));
       marked = λ all. more_marked c.args.from first past (length (take (past - first) (drop first out))) c.args.stored.now.bytes out c.fetch.new.out marks order few
-          (f.got c.if-not-fetch.false (true_at_all g.D.Door.is_true c.loop-first.doors c.args.stored.now.spots (i.truth all))) held len next.result (i.marked all) (λ x from lt. next.ensures.none x from lt);
+          (f.got c.if-not-fetch.false (true_at_all g.D.Door.is_true c.loop-first.doors c.args.stored.now.spots (i.truth all))) held len next.result (i.marked all)
+          (λ x from lt. next.ensures.none x from lt);
       unmarked = λ x lt no. more_unmarked first past out c.fetch.new.out marks order few len c.first_marked-past.ensures.none x no ∙ i.unmarked x (omega (arith, whole, lt)) no;
       kept = kept_twice _ _ _ _ _ _ i.kept (record { none_fell = f.none_fell; total = f.sum_never_falls });
       count = f.count ∙ i.count;

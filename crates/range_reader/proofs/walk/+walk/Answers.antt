@@ -97,7 +97,8 @@ pub walk-requires-then-high-from : goal.walk-requires-then-high-from
 walk-requires-then-high-from g t c = λ κs lives.
     let of = node g t (goal.at.walk-requires-then-high-from g t c).After-halves in
     let half = of.right_newest (omega (arith, c.requires.valid, c.requires.some, c.if-high-from.true)) in
-    (search rules, (lives.0, (lives.1, (search rules, (search rules, (search rules, (half.0, (half.1, (search rules, (omega (arith, of.ends, c.requires.ends), (search rules, (search rules, search rules))))))))))))
+    (search rules, (lives.0, (lives.1, (search rules, (search rules, (search rules, (half.0, (half.1, (search rules,
+    (omega (arith, of.ends, c.requires.ends), (search rules, (search rules, search rules))))))))))))
 
 pub returns-then-high-from-clause-steps : goal.returns-then-high-from-clause-steps
 returns-then-high-from-clause-steps g t c =
@@ -116,7 +117,8 @@ cut g t c =
 
 -- the backs of both parts
 backs : (g : Over) (t : ℕ) (c : After-split_at_mut-front g t) (h q first last : ℕ) → let s = c.args.source.now.view.now in InnerStep s.page_size h q first last c.args.range
-    → backs_in s c.args.from (length c.split_at_mut-front.result.0.now) + backs_in s c.halves.result.1.offset (length c.split_at_mut-front.result.1.now) ≡ backs_in s c.args.from (length c.args.out.now)
+    → backs_in s c.args.from (length c.split_at_mut-front.result.0.now) + backs_in s c.halves.result.1.offset (length c.split_at_mut-front.result.1.now)
+    ≡ backs_in s c.args.from (length c.args.out.now)
 backs g t c h q first last i =
     let s = c.args.source.now.view.now in
     let p = s.page_size in
@@ -161,7 +163,8 @@ walk-requires-3 g t c = λ κs lives.
     let parts = cut g t at.After-split_at_mut-front in
     let of = node g t at.After-halves in
     let half = of.right_newest (omega (arith, c.requires.valid, c.requires.some, c.if-end-high.false)) in
-    (search rules, (lives.0, (lives.1, (search rules, (search rules, (search rules, (half.0, (half.1, (search rules, (omega (arith, of.ends, parts, c.requires.ends), (search rules, (search rules, search rules))))))))))))
+    (search rules, (lives.0, (lives.1, (search rules, (search rules, (search rules, (half.0, (half.1, (search rules,
+    (omega (arith, of.ends, parts, c.requires.ends), (search rules, (search rules, search rules))))))))))))
 
 pub returns-clause-bytes : goal.returns-clause-bytes
 returns-clause-bytes g t c =

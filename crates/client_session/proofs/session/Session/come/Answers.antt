@@ -2,8 +2,8 @@ use Rattle.std.proofs.Common.{◌≡◌, true, refl, sym, ◌∙◌, ap, subst, 
 use Rattle.std.specs.Prelude.{All}
 use Rattle.std.proofs.lemmas.Bool.{false≢true}
 use Rattle.snapshot.specs.Versions.{Version}
-use Rattle.session_parts.specs.Opened.{has_opened}
-use Rattle.session_parts.proofs.KeptPlaces.{all_keeping}
+use Rattle.range_reader.specs.Opened.{has_opened}
+use Rattle.range_reader.proofs.KeptPlaces.{all_keeping}
 use Rattle.client_session.specs.Kept.{IsKept}
 use Rattle.client_session.specs.Sessions.{SessionState}
 use Rattle.client_session.proofs.Kept.{opened_kept}

@@ -1,17 +1,15 @@
 use Rattle.std.proofs.Common.{◌≡◌, sym, ◌∙◌, ap, subst, ℕ, ◌<◌, List, length, IfOk}
 use Rattle.std.specs.Prelude.{remove}
-use Rattle.session_parts.specs.Tickets.{OpenUpdate, IsHeldAt}
-use Rattle.session_parts.proofs.HeldRows.{at_index}
-use Rattle.session_parts.specs.Opened.{all_kept}
+use Rattle.client_session.specs.Tickets.{OpenUpdate, IsHeldAt}
+use Rattle.client_session.proofs.Holding.{at_index, holding_remove}
+use Rattle.range_reader.specs.Opened.{all_kept}
 use Rattle.client_session.specs.SessionInvariant.{IsOpen, IsSession}
 use Rattle.client_session.specs.Sessions.{SessionState, longest}
 use Rattle.client_session.proofs.HeldFinishes.{finish_settled, finish_open}
 use Rattle.client_session.proofs.Losses.{settled_lost, held_lost}
-use Rattle.client_session.proofs.Holding.{holding_remove}
-use Rattle.client_session.specs.TurnCounts.{RowTurns}
+use Rattle.client_session.specs.TurnCounts.{RowTurns, UpTo}
 use Rattle.client_session.proofs.TurnCounts.{held_turns}
 use Rattle.std.proofs.lemmas.Bool.{false≢true}
-use Rattle.client_session.specs.TurnCounts.{UpTo}
 use Rattle.client_session.proofs.Untouched.{RisingPairs, by_row}
 use Rattle.client_session.proofs.Memory.{settled_memory, held_memory}
 use Rattle.client_session.proofs.session.Session.finish.Goals as goal

@@ -3,14 +3,13 @@ use Rattle.std.specs.Prelude.{remove}
 use Rattle.blob_model.specs.History.{AllOther}
 use Rattle.request_form.specs.Session.{Session, HeldTicket, ticket_at, drops, without_ticket}
 use Rattle.request_form.specs.Answers.{FinishAnswer}
-use Rattle.session_parts.specs.Opened.{all_kept}
+use Rattle.range_reader.specs.Opened.{all_kept}
 use Rattle.client_session.specs.SessionInvariant.{IsSession}
 use Rattle.client_session.specs.HangUp.{tells_hindered}
 use Rattle.client_session.specs.Results.{finish_reply}
 use Rattle.client_session.specs.Sessions.{longest, SessionState, session_at, session_of}
-use Rattle.session_parts.specs.Tickets.{OpenUpdate, tickets_of}
-use Rattle.session_parts.proofs.HeldRows.{tickets_of-remove}
-use Rattle.client_session.proofs.Holding.{holding_remove}
+use Rattle.client_session.specs.Tickets.{OpenUpdate, tickets_of}
+use Rattle.client_session.proofs.Holding.{tickets_of-remove, holding_remove}
 use Rattle.client_session.proofs.HangingUp.{some_held, first_number, fewer_held, some_left, one_gone, one_dropped, same_tickets, dropped_left}
 use Rattle.client_session.proofs.session.Session.give_up_first.Goals as goal
 

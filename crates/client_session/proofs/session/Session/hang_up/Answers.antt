@@ -5,7 +5,7 @@ use Rattle.request_form.specs.Session.{Session, HeldTicket}
 use Rattle.request_form.specs.HangUp.{AllNumbered, HungUp, GivenUpCounts, begins_anew}
 use Rattle.client_session.specs.Results.{finish_reply}
 use Rattle.client_session.specs.Sessions.{SessionState, session_of}
-use Rattle.session_parts.specs.Tickets.{tickets_of}
+use Rattle.client_session.specs.Tickets.{tickets_of}
 use Rattle.client_session.specs.HangUp.{GivingUp, finished_seen, counts_of}
 use Rattle.client_session.proofs.HangingUp.{some_held, giving_start, giving_more, hung_up, all_numbered, finished_then}
 use Rattle.client_session.proofs.session.Session.hang_up.Goals as goal

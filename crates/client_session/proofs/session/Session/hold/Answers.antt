@@ -1,7 +1,7 @@
 use Rattle.std.proofs.Common.{◌≡◌, refl, sym, ◌∙◌, ap, subst, ◌+◌, ◌≤◌, List, [], ◌∷◌, ◌++◌, length}
 use Rattle.std.specs.Prelude.{option_map}
 use Rattle.std.specs.Arc.{arc_value}
-use Rattle.session_parts.specs.Tickets.{OpenUpdate}
+use Rattle.client_session.specs.Tickets.{OpenUpdate}
 use Rattle.client_session.specs.SessionInvariant.{IsOpen, IsSession}
 use Rattle.client_session.specs.Sessions.{SessionState}
 use Rattle.client_session.proofs.Holding.{holding_push}

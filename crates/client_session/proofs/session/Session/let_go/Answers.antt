@@ -1,8 +1,7 @@
 use Rattle.std.proofs.Common.{refl, sym, subst, List}
-use Rattle.session_parts.specs.Tickets.{OpenUpdate}
+use Rattle.client_session.specs.Tickets.{OpenUpdate, WithoutVersion}
 use Rattle.client_session.specs.SessionInvariant.{IsSession}
 use Rattle.client_session.proofs.Holding.{holding_remove}
-use Rattle.client_session.specs.Tickets.{WithoutVersion}
 use Rattle.client_session.proofs.session.Session.let_go.Goals as goal
 
 pub invariant_of-self : goal.invariant_of-self

@@ -12,8 +12,8 @@ use Rattle.request_form.specs.Answers.{AfterGap, UnnumberedTurn, Unless, update_
 use Rattle.request_form.specs.declared.form.Fault.{Fault}
 use Rattle.request_form.specs.declared.form.Reply.{Reply}
 use Rattle.request_form.specs.declared.form.Reply.TheVariants as Replies
-use Rattle.session_parts.specs.Tickets.{ticket_of}
-use Rattle.session_parts.specs.Opened.{all_kept}
+use Rattle.client_session.specs.Tickets.{ticket_of}
+use Rattle.range_reader.specs.Opened.{all_kept}
 use Rattle.client_session.specs.Sessions.{longest, session_at}
 use Rattle.client_session.specs.Finishing.{bare}
 use Rattle.client_session.specs.Numbering.{LookedAhead, NotNumberedFor, Numbering}

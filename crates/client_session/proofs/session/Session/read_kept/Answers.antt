@@ -1,6 +1,6 @@
 use Rattle.std.proofs.Common.{◌+◌, length}
 use Rattle.blob_model.specs.Content.{size_of}
-use Rattle.session_parts.specs.Opened.{all_kept}
+use Rattle.range_reader.specs.Opened.{all_kept}
 use Rattle.client_session.specs.Sessions.{SessionState, longest}
 use Rattle.client_session.proofs.Kept.{found_by_view}
 use Rattle.client_session.proofs.RangeAnswers.{reads_range, range_starved}
@@ -17,8 +17,7 @@ returns-clause-by g c =
     rw (c.range_told.ensures.is, ← c.self.view_is) (record {
       v = v;
       found = found_by_view c.rows_tell.ensures s i.opened c.args.blob c.args.version v c.self.invariant.kept c.kept_view-view.ensures;
-      reads = λ us tells.
-          reads_range v.page_size (length v.rows) c.args.offset c.args.count us c.read_range.result c.requires.few (x.bytes us tells) (a.within us tells) (a.refused us tells) (a.past us tells) (a.lost_within us tells) a.page;
+      reads = λ us tells. reads_range v c.args.offset c.args.count _ _ _ _ us tells c.read_range.result c.requires.few (x.bytes us tells) a;
       steps = x.steps.few;
       no_step = x.steps.none_past;
       failed = range_lost c.read_range.result _ a.failed;

@@ -1,6 +1,6 @@
 use Rattle.std.proofs.Common.{length}
 use Rattle.blob_model.specs.Content.{size_of}
-use Rattle.session_parts.specs.Opened.{all_kept}
+use Rattle.range_reader.specs.Opened.{all_kept}
 use Rattle.client_session.specs.Sessions.{SessionState, longest}
 use Rattle.client_session.proofs.Kept.{found_by_view}
 use Rattle.client_session.proofs.ManyRanges.{reads_ranges, ranges_starved}
@@ -16,8 +16,7 @@ returns-clause-by g c =
     rw (c.range_told.ensures.is, ← c.self.view_is) (record {
       v = v;
       found = found_by_view c.rows_tell.ensures s i.opened c.args.blob c.args.version v c.self.invariant.kept c.kept_view-view.ensures;
-      reads = λ us tells.
-          reads_ranges v.page_size (length v.rows) us c.args.pairs.now c.read_ranges.result (x.bytes us tells) (x.refused us tells) (x.answers.past us tells) x.answers.page;
+      reads = λ us tells. reads_ranges v c.args.pairs.now _ _ _ _ us tells c.read_ranges.result (x.bytes us tells) (x.refused us tells) x.answers;
       steps = x.steps;
       no_step = x.no_steps;
       failed = range_lost c.read_ranges.result _ x.answers.failed;

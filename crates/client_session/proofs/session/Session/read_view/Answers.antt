@@ -9,9 +9,8 @@ pub returns-clause-reads : goal.returns-clause-reads
 returns-clause-reads g c = λ us tells.
     let v = c.args.view.now in
     let x = c.read_range.ensures in
-    let a = x.answers in
     subst (λ (said : Result (List ℕ) Fault). ReadsRange v.page_size us (length v.rows) c.args.offset c.args.count said) (sym c.range_told.ensures.is)
-    (reads_range v.page_size (length v.rows) c.args.offset c.args.count us c.read_range.result (omega (arith, c.if-count-gt-MAX_READ.false)) (x.bytes us tells) (a.within us tells) (a.refused us tells) (a.past us tells) (a.lost_within us tells) a.page)
+    (reads_range v c.args.offset c.args.count _ _ _ _ us tells c.read_range.result (omega (arith, c.if-count-gt-MAX_READ.false)) (x.bytes us tells) x.answers)
 
 pub returns-clause-failed : goal.returns-clause-failed
 returns-clause-failed g c = rw (c.range_told.ensures.is, ← c.self.view_is) (range_lost c.read_range.result _ c.read_range.ensures.answers.failed)

@@ -2,9 +2,8 @@ use Rattle.std.proofs.Common.{sym, ◌∙◌, ap, subst, List}
 use Rattle.client_session.proofs.HeldFinishes.{repair_settled, repair_open}
 use Rattle.client_session.proofs.Losses.{settled_lost}
 use Rattle.std.proofs.lemmas.Bool.{false≢true}
-use Rattle.session_parts.specs.Tickets.{OpenUpdate}
+use Rattle.client_session.specs.Tickets.{OpenUpdate, WithoutVersion}
 use Rattle.client_session.specs.Sessions.{SessionState}
-use Rattle.client_session.specs.Tickets.{WithoutVersion}
 use Rattle.client_session.proofs.Memory.{settled_memory}
 use Rattle.client_session.proofs.session.Session.repair.Goals as goal
 

@@ -5,7 +5,7 @@ use Rattle.turn_lock.specs.Shown.{PassView as Seat}
 use Rattle.version_manager.specs.Log.{Opened}
 use Rattle.version_manager.specs.declared.journal.DeskFixed.{DeskFixed}
 use Rattle.version_manager.specs.declared.fault.OpenFault.{OpenFault}
-use Rattle.session_parts.specs.Opened.{all_kept}
+use Rattle.range_reader.specs.Opened.{all_kept}
 use Rattle.client_session.specs.Sessions.{longest}
 use Rattle.client_session.proofs.Turns.{Took, took, went_opened}
 use Rattle.client_session.proofs.Standing.{session_after}

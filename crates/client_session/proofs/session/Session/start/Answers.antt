@@ -5,10 +5,9 @@ use Rattle.border_hints.specs.Numbered.{NumberedUpdate}
 use Rattle.request_form.specs.Session.{Session}
 use Rattle.request_form.specs.declared.form.Reply.TheVariants as Replies
 use Rattle.request_form.specs.declared.form.Fault.TheVariants as Faults
-use Rattle.session_parts.specs.Tickets.{HasRow}
+use Rattle.client_session.specs.Tickets.{HasRow, HasNoRow}
 use Rattle.client_session.specs.Sessions.{SessionState, session_of}
 use Rattle.client_session.proofs.UpdateAnswers.{held_more, start_done, start_not_done, start_kept, start_held, start_rose, start_row, start_alone, next_is, put_last}
-use Rattle.client_session.specs.Tickets.{HasNoRow}
 use Rattle.client_session.specs.TurnCounts.{numbering_turns}
 use Rattle.client_session.proofs.Untouched.{none_more, one_more}
 use Rattle.client_session.proofs.session.Session.start.Goals as goal

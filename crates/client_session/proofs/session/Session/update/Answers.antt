@@ -8,19 +8,17 @@ use Rattle.client_session.specs.TurnCounts.{UpTo, FoldTurns, numbering_turns}
 use Rattle.client_session.proofs.TurnCounts.{finish_by_folds, none_done, not_done_turns}
 use Rattle.std.specs.Prelude.{sum_by}
 use Rattle.border_hints.specs.Numbered.{NumberedUpdate}
-use Rattle.session_parts.specs.Tickets.{OpenUpdate}
+use Rattle.client_session.specs.Tickets.{OpenUpdate, AllHeldStill}
 use Rattle.client_session.specs.SessionInvariant.{IsOpen}
 use Rattle.client_session.specs.Sessions.{SessionState, StoreState, Continues, session_of}
 use Rattle.client_session.specs.Updates.{update_reply}
 use Rattle.client_session.specs.Results.{updated_reply}
 use Rattle.client_session.proofs.Standing.{open_stays, longer_log}
 use Rattle.client_session.proofs.UpdateAnswers.{update_done, update_not_done, update_finished, update_rose, kept, kept_lost, rose_both}
-use Rattle.client_session.proofs.Losses.{calm_result}
+use Rattle.client_session.proofs.Losses.{calm_result, lost_since}
 use Rattle.client_session.proofs.Waiting.{goes_both}
 use Rattle.std.specs.Prelude.{map}
 use Rattle.client_session.specs.Losses.{LostAnew}
-use Rattle.client_session.specs.Tickets.{AllHeldStill}
-use Rattle.client_session.proofs.Losses.{lost_since}
 use Rattle.client_session.proofs.Untouched.{none_more, lost_as, too_late}
 use Rattle.client_session.proofs.session.Session.update.Goals as goal
 

@@ -1,9 +1,0 @@
-use Rattle.std.proofs.Common.{◌≡◌, ◌≤◌, ◌+◌, ◌-◌, length, drop}
-use Rattle.session_parts.specs.Opened.{place_of}
-use Rattle.session_parts.proofs.opened.Opened.place_of.Given as goal
-
-abbrev pub invariant-loop-at : goal.invariant-loop-at
-invariant-loop-at l = (l.at ≤ length l.self) × (place_of l.blob l.self ≡ l.at + place_of l.blob (drop l.at l.self))
-
-abbrev pub decreases-loop-at : goal.decreases-loop-at
-decreases-loop-at l = length l.self - l.at
