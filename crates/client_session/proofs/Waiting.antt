@@ -1,5 +1,5 @@
 -- A session that waits, look by look.
-use Rattle.std.proofs.Common.{◌≡◌, refl, sym, ◌∙◌, ap, subst, ℕ, ◌+◌, List, [], ◌∷◌, ◌++◌, append_assoc, append-nil, arith}
+use Rattle.std.proofs.Common.{◌≡◌, refl, sym, ◌∙◌, ap, subst, ℕ, ◌+◌, List, [], ◌++◌, append_assoc, append-nil, arith}
 use Rattle.blob_model.specs.Answer.{answer}
 use Rattle.blob_model.specs.History.{AllOther, store_of}
 use Rattle.blob_model.specs.declared.call.Call.{Call}

@@ -1,4 +1,4 @@
-use Rattle.std.proofs.Common.{rules, ◌≡◌, ℕ, ◌+◌, ◌*◌, ◌/◌, ◌<◌, ◌≤◌, arith, ap, sym, ◌∙◌, subst}
+use Rattle.std.proofs.Common.{rules, ◌≡◌, ℕ, ◌+◌, ◌-◌, ◌*◌, ◌/◌, ◌<◌, ◌≤◌, arith, ap, sym, ◌∙◌, subst}
 use Rattle.tree_geom.specs.declared.range.Range.{Range}
 use Rattle.tree_geom.specs.Geometry.{page_range, tree_range}
 use Rattle.tree_geom.proofs.Spans.{page_pos}
@@ -97,8 +97,9 @@ pub depths-back-requires : goal.depths-back-requires
 depths-back-requires g t c κs within =
     let of = node g t (goal.at.depths-back-requires g t c).After-halves in
     let next = of.right_newest (omega (arith, c.requires.valid, c.requires.some, c.if-end-high.false)) in
-    (search rules, (within, (c.requires.here, (next.0, (next.1, (search rules,
-    (omega (arith, of.ends, c.requires.ends, c.if-high-from.false, c.if-end-high.false), (search rules, (search rules, search rules)))))))))
+    let high = c.halves.result.1 in
+    let ends : high.offset + (c.args.from + c.args.count - high.offset) ≤ high.offset + high.size = omega (arith, of.ends, c.requires.ends, c.if-high-from.false, c.if-end-high.false) in
+    (search rules, (within, (c.requires.here, (next.0, (next.1, (search rules, (ends, (search rules, (search rules, search rules)))))))))
 
 pub returns-clause-depths : goal.returns-clause-depths
 returns-clause-depths g t c =

@@ -97,8 +97,9 @@ pub walk-requires-then-high-from : goal.walk-requires-then-high-from
 walk-requires-then-high-from g t c = λ κs lives.
     let of = node g t (goal.at.walk-requires-then-high-from g t c).After-halves in
     let half = of.right_newest (omega (arith, c.requires.valid, c.requires.some, c.if-high-from.true)) in
-    (search rules, (lives.0, (lives.1, (search rules, (search rules, (search rules, (half.0, (half.1, (search rules,
-    (omega (arith, of.ends, c.requires.ends), (search rules, (search rules, search rules))))))))))))
+    let high = c.halves.result.1 in
+    let ends : c.args.from + length c.args.out.now ≤ high.offset + high.size = omega (arith, of.ends, c.requires.ends) in
+    (search rules, (lives.0, (lives.1, (search rules, (search rules, (search rules, (half.0, (half.1, (search rules, (ends, (search rules, (search rules, search rules))))))))))))
 
 pub returns-then-high-from-clause-steps : goal.returns-then-high-from-clause-steps
 returns-then-high-from-clause-steps g t c =
@@ -163,8 +164,9 @@ walk-requires-3 g t c = λ κs lives.
     let parts = cut g t at.After-split_at_mut-front in
     let of = node g t at.After-halves in
     let half = of.right_newest (omega (arith, c.requires.valid, c.requires.some, c.if-end-high.false)) in
-    (search rules, (lives.0, (lives.1, (search rules, (search rules, (search rules, (half.0, (half.1, (search rules,
-    (omega (arith, of.ends, parts, c.requires.ends), (search rules, (search rules, search rules))))))))))))
+    let high = c.halves.result.1 in
+    let ends : high.offset + length c.split_at_mut-front.result.1.now ≤ high.offset + high.size = omega (arith, of.ends, parts, c.requires.ends) in
+    (search rules, (lives.0, (lives.1, (search rules, (search rules, (search rules, (half.0, (half.1, (search rules, (ends, (search rules, (search rules, search rules))))))))))))
 
 pub returns-clause-bytes : goal.returns-clause-bytes
 returns-clause-bytes g t c =
