@@ -29,7 +29,7 @@ use Rattle.version_manager.specs.declared.journal.DeskFixed.{DeskFixed}
 use Rattle.version_manager.specs.declared.fault.DeskFault.{DeskFault}
 use Rattle.version_manager.specs.declared.fault.DeskFault.TheVariants as DeskFaults
 use Rattle.request_form.specs.Session.{Session, store_at, outcome_at, sees}
-use Rattle.request_form.specs.Turns.{refuses, AfterGap}
+use Rattle.request_form.specs.Turns.{AfterGap}
 use Rattle.request_form.specs.Answers.{FinishTurn, RepairTurn, Folds, IsReady, max_update, folds_in}
 use Rattle.request_form.specs.Replies.{fault_of, page_faults}
 use Rattle.request_form.specs.declared.form.Reply.TheVariants as Replies
@@ -44,7 +44,7 @@ use Rattle.client_session.proofs.Folding.{folds_of_ticket, folds_there, folds_to
 use Rattle.client_session.proofs.Gapped.{finish_later}
 use Rattle.client_session.proofs.Opened.{waiting_ticket_here}
 use Rattle.client_session.proofs.StoreAnswers.{IsThere, found_already, may_by_published, already_by_refused, refusal_of_numbered, before_waits, before_ready}
-use Rattle.client_session.proofs.Turns.{Took, took, seen_gap, seen_event, went_changed}
+use Rattle.client_session.proofs.Turns.{Took, took, seen_gap, seen_event, then_told, went_changed}
 
 -- the store of a history and a gap
 pub store_of_gap : (f : DeskFixed) (log gap : List (ℕ × Event)) → store_of f.limits (events log ++ events gap) ≡ store_of f.limits (events (log ++ gap))
@@ -114,7 +114,7 @@ module _ (f : DeskFixed) (caller : ℕ) (log log' : List (ℕ × Event)) (t : Nu
         seen = seen_gap f caller log log' gap [] 1 max_update same;
       }
   not_reported gap DeskFaults.NoMemory others same refused =
-      record { others = events gap; is_gap = others; turn = _; may = RepairTurn.finish _ FinishTurn.out_of_memory; said = refl; seen = seen_gap f caller log log' gap [] 1 max_update same }
+      then_told f caller log log' gap [] 1 max_update (RepairTurn (bare f caller log) t.blob t.version) _ _ others same (RepairTurn.finish _ FinishTurn.out_of_memory) refl
 
   pub report_not_done : {E : Type 0} (fault : E → DeskFault) (e : E)
       → Took caller log log' (λ before after. Changed f (Calls.Finish t.blob t.version) (Events.Finish caller t.blob t.version) (λ (n : ℕ). Outcomes.Published n) fault before caller (Err e) after)
@@ -166,20 +166,14 @@ module _ (f : DeskFixed) (caller : ℕ) (log log' : List (ℕ × Event)) (blob v
   refused_by : (gap : List (ℕ × Event)) (refusal : Refusal) → AllOther caller (events gap) → log' ≡ log ++ gap → repair_refusal (store_of f.limits (events log')) blob version ≡ Some refusal
       → refusal ≢ Refusals.Already version → Finishing f caller log blob version (Err (fault_of refusal)) log'
   refused_by gap refusal others same refused other =
-      record {
-        others = events gap;
-        is_gap = others;
-        turn = refuses (fault_of refusal);
-        may = RepairTurn.refused refusal
-            (ap (λ (s : Store). repair_refusal s blob version) (store_of_gap f log gap ∙ ap (λ (l : List (ℕ × Event)). store_of f.limits (events l)) (sym same)) ∙ refused) other;
-        said = refl;
-        seen = seen_gap f caller log log' gap [] 1 max_update same;
-      }
+      then_told f caller log log' gap [] 1 max_update (RepairTurn (bare f caller log) blob version) _ _ others same
+      (RepairTurn.refused refusal
+      (ap (λ (s : Store). repair_refusal s blob version) (store_of_gap f log gap ∙ ap (λ (l : List (ℕ × Event)). store_of f.limits (events l)) (sym same)) ∙ refused) other) refl
 
   not_found : (gap : List (ℕ × Event)) (why : DeskFault) → AllOther caller (events gap) → log' ≡ log ++ gap
       → OnRefused why (λ refusal. repair_refusal (store_now (desk_at f log')) blob version ≡ Some refusal) → Finishing f caller log blob version (Err (desk_fault why)) log'
   not_found gap DeskFaults.NoMemory others same refused =
-      record { others = events gap; is_gap = others; turn = _; may = RepairTurn.finish _ FinishTurn.out_of_memory; said = refl; seen = seen_gap f caller log log' gap [] 1 max_update same }
+      then_told f caller log log' gap [] 1 max_update (RepairTurn (bare f caller log) blob version) _ _ others same (RepairTurn.finish _ FinishTurn.out_of_memory) refl
   not_found gap (DeskFaults.Refused (Refusals.Already v)) others same refused =
       let is : v ≡ version = (found_already (store_of f.limits (events log')) blob version v refused).0 in
       record {

@@ -22,6 +22,7 @@ use Rattle.version_manager.specs.Log.{Changed, IsNewTicket, tag, events, desk_at
 use Rattle.version_manager.specs.declared.journal.DeskFixed.{DeskFixed}
 use Rattle.version_manager.specs.declared.fault.DeskFault.{DeskFault}
 use Rattle.request_form.specs.Session.{Session, outcome_at, sees}
+use Rattle.request_form.specs.Turns.{refuses}
 use Rattle.request_form.specs.Answers.{max_update}
 use Rattle.request_form.specs.declared.form.Reply.TheVariants as Replies
 use Rattle.request_form.specs.declared.form.Fault.{Fault}
@@ -33,7 +34,7 @@ use Rattle.client_session.specs.SessionInvariant.{IsTicketHere}
 use Rattle.client_session.specs.Numbering.{LookedAhead, NotNumberedFor, Numbering}
 use Rattle.client_session.proofs.Gapped.{others_both, unnumbered_later}
 use Rattle.client_session.proofs.Opened.{new_ticket_here}
-use Rattle.client_session.proofs.Turns.{Took, took, not_done, outcome_of_gap, seen_gap}
+use Rattle.client_session.proofs.Turns.{Took, took, not_done, outcome_of_gap, seen_gap, then_told}
 use Rattle.blob_model.specs.History.{is_refused}
 use Rattle.request_form.specs.Replies.{page_faults, fault_of}
 use Rattle.request_form.specs.Answers.{UnnumberedTurn, IsStoredThen}
@@ -41,16 +42,15 @@ use Rattle.request_form.specs.declared.form.Fault.TheVariants as Faults
 
 -- ---- what isn't prepared
 module _ (f : DeskFixed) (caller : ℕ) (log log' : List (ℕ × Event)) (looks_first : Bool) (blob : ℕ) (place : Place) (bytes : List ℕ) where
+  not_prepared : (gap : List (ℕ × Event)) (fault : Fault) → AllOther caller (events gap) → log' ≡ log ++ gap → UnnumberedTurn (bare f caller log) blob place bytes (events gap) (refuses fault)
+      → NotNumberedFor (bare f caller log) blob place bytes fault (bare f caller log')
+  not_prepared gap fault others same may =
+      then_told f caller log log' gap [] 1 max_update (UnnumberedTurn (bare f caller log) blob place bytes) (Replies.Refused fault) _ others same may refl
+
   pub ahead_refused : (refusal : Refusal) → LookedAhead f caller log looks_first blob place bytes (Some refusal) log' → NotNumberedFor (bare f caller log) blob place bytes (fault_of refusal) (bare f caller log')
   ahead_refused refusal look =
-      record {
-        others = events look.gap;
-        is_gap = look.others;
-        turn = _;
-        may = UnnumberedTurn.refused refusal (outcome_of_gap f caller log log' look.gap [] 1 max_update (Calls.Assign blob place bytes) ∙ look.refused);
-        said = refl;
-        seen = seen_gap f caller log log' look.gap [] 1 max_update look.same;
-      }
+      not_prepared look.gap _ look.others look.same
+      (UnnumberedTurn.refused refusal (outcome_of_gap f caller log log' look.gap [] 1 max_update (Calls.Assign blob place bytes) ∙ look.refused))
 
   -- the bytes are stored behind the look
   stored_then : (look : LookedAhead f caller log looks_first blob place bytes None log') → IsStoredThen (bare f caller log) blob place bytes (events look.gap)
@@ -62,17 +62,8 @@ module _ (f : DeskFixed) (caller : ℕ) (log log' : List (ℕ × Event)) (looks_
 
   pub not_stored : (fault : StoreFault) → LookedAhead f caller log looks_first blob place bytes None log' → OnPageFault fault (λ i. f.page_size * i < length bytes)
       → NotNumberedFor (bare f caller log) blob place bytes (store_fault fault) (bare f caller log')
-  not_stored (StoreFaults.PageFault page before) look is_page =
-      record {
-        others = events look.gap;
-        is_gap = look.others;
-        turn = _;
-        may = UnnumberedTurn.not_stored page is_page (stored_then look);
-        said = refl;
-        seen = seen_gap f caller log log' look.gap [] 1 max_update look.same;
-      }
-  not_stored StoreFaults.NoMemory look is_page =
-      record { others = events look.gap; is_gap = look.others; turn = _; may = UnnumberedTurn.out_of_memory; said = refl; seen = seen_gap f caller log log' look.gap [] 1 max_update look.same }
+  not_stored (StoreFaults.PageFault page before) look is_page = not_prepared look.gap _ look.others look.same (UnnumberedTurn.not_stored page is_page (stored_then look))
+  not_stored StoreFaults.NoMemory look is_page = not_prepared look.gap _ look.others look.same UnnumberedTurn.out_of_memory
 
 -- ---- the numbering
 module _ (f : DeskFixed) (caller : ℕ) (log log' : List (ℕ × Event)) (blob : ℕ) (place : Place) (bytes : List ℕ) where

@@ -280,12 +280,7 @@ impl<'a> RowView<'a> {
 
     /// The parts of the leaf that the row has for the page. It takes one node step.
     #[inline(always)]
-    pub fn leaf<L: Ledger>(
-        &self,
-        nodes: &NodeHouse,
-        page: u64,
-        steps: &mut Steps<L>,
-    ) -> LeafParts
+    pub fn leaf<L: Ledger>(&self, nodes: &NodeHouse, page: u64, steps: &mut Steps<L>) -> LeafParts
         requires here { NodesLieIn nodes.now self.now.version }
         requires has { HasNodeFor self.now.version self.now.update (tree_range self.now.version.page_size 0 page) }
         ensures parts { let s = self.now.version in IsPartsOf (node_of s.page_size (falls s) self.now.update (tree_range s.page_size 0 page)) result }

@@ -31,8 +31,11 @@ returns-clause-leaf g c =
     let P : RowIn → Type 0 = λ r. IsPartsOf (node_of r.version.page_size (falls r.version) r.update (tree_range r.version.page_size 0 c.args.page)) c.leaf.result in
     let told = subst P c.row_of-row.ensures c.leaf.ensures.parts in
     let are = leaf_parts s.page_size c.args.j c.args.page (falls s) _ (page_pos s.page_size c.stands.ensures.page_size)
-              (ap (node_of s.page_size (falls s) c.args.j) (sym (c.ranges_align.ensures.pages s.page_size c.args.page))) in
+    (ap (node_of s.page_size (falls s) c.args.j) (sym (c.ranges_align.ensures.pages s.page_size c.args.page))) in
     record {
-      start = sym told.start ∙ are.starts; first = sym told.first ∙ are.one; second = sym told.second ∙ are.two;
-      back = sym told.back ∙ are.leads; depth = sym told.depth ∙ are.deep;
+      start = sym told.start ∙ are.starts;
+      first = sym told.first ∙ are.one;
+      second = sym told.second ∙ are.two;
+      back = sym told.back ∙ are.leads;
+      depth = sym told.depth ∙ are.deep;
     }

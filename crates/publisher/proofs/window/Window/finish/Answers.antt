@@ -48,9 +48,11 @@ index_mut-requires g c =
 pub invariant_of-self : goal.invariant_of-self
 invariant_of-self g c =
     let w = c.self.inside in
-    let slot = c.args.version - c.version-published.result - 1 in
-    (subst (λ (l : List (Option UpdateRow)). KeepsWindow w.snapshot w.waiting l) (sym (map-set row_in w.slots.items slot _))
-    (keeps_set w.snapshot w.waiting (map row_in w.slots.items) slot (arc_value c.args.row) c.self.invariant.0 c.if-slot-gt0.true), c.self.invariant.1)
+    let slot = c.args.version - c.version-published.result - 1 in (
+      subst (λ (l : List (Option UpdateRow)). KeepsWindow w.snapshot w.waiting l) (sym (map-set row_in w.slots.items slot _))
+          (keeps_set w.snapshot w.waiting (map row_in w.slots.items) slot (arc_value c.args.row) c.self.invariant.0 c.if-slot-gt0.true),
+      c.self.invariant.1,
+    )
 
 pub returns-then-slot-gt0-clause-finished : goal.returns-then-slot-gt0-clause-finished
 returns-then-slot-gt0-clause-finished g c =
