@@ -269,7 +269,6 @@ pub(crate) fn work_all<
     S: PeerServer<NewPeer<Li::Peer>> + Drop + Send,
 >(
     rt: &R,
-    alloc: Global,
     shared: &Shared,
     queue: &PeerQueue<NewPeer<Li::Peer>>,
     pass: PeerPass<NewPeer<Li::Peer>>,
@@ -296,6 +295,7 @@ where
     ensures served { (history : List Event) → IsBeginningOf (S.saw result.1) history → AllBegin S.saw result.2.items history
         → ServedMany (WasServed S.home S.saw S.gives shared.now history) result.0.peers }
 {
+    let alloc = queue.alloc();
     let alone = others.is_empty();
     let mut pass = pass;
     let own = queue.cut(&mut pass);

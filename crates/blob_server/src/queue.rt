@@ -30,6 +30,7 @@ pub(crate) struct PeerQueue<P> {
     // How many workers are to take peers from here, and how many of them serve one now.
     takers: u32,
     serving: AtomicU32,
+    alloc: Global,
 }
 
 impl<P: Drop> PeerQueue<P> {
@@ -45,8 +46,14 @@ impl<P: Drop> PeerQueue<P> {
             bell: Bell::new(),
             takers,
             serving: AtomicU32::new(0),
+            alloc,
         };
         Ok((queue, pass))
+    }
+
+    /// Where the workers take their memory.
+    pub(crate) fn alloc(&self) -> Global {
+        self.alloc
     }
 
     /// A pass with one part of this one's.

@@ -108,7 +108,6 @@ where
     };
     let (taken, first, others) = work_all(
         rt,
-        alloc,
         shared,
         &queue,
         pass,

@@ -32,47 +32,65 @@ use std::sync::Wait;
 use std::thread::Threads;
 use turn_lock::Turn;
 
-// Serves lines by a file session that works with these passes and those doors, and gives them back.
+// What a file session works with, and gives back: a pass of the store, one of the names, and doors.
+struct Held<D> {
+    pass: Pass,
+    names: turn_lock::Pass<Names>,
+    doors: Doors<D>,
+}
+
+// Serves lines by a file session that works with these passes and doors, and gives them back.
 fn serve_session<R: Wait + Threads + Sync, S: Source, K: Sink, D: BesideDoor, G: Gate>(
     rt: &R,
     alloc: Global,
     shared: &Shared,
     names: &Turn<Names>,
     gate: &G,
-    pass: Pass,
-    names_pass: turn_lock::Pass<Names>,
-    doors: Doors<D>,
+    held: Held<D>,
     script: &mut S,
     out: &mut K,
-) -> (End, Pass, turn_lock::Pass<Names>, Doors<D>)
-    requires pass { IsPassOf shared.now pass }
-    requires names { names_pass.lock ≡ names.now }
-    requires served { length doors ≡ shared.now.providers }
-    requires true_doors { All D.is_true doors }
+) -> (End, Held<D>)
+    requires pass { IsPassOf shared.now held.pass }
+    requires names { held.names.lock ≡ names.now }
+    requires served { length held.doors ≡ shared.now.providers }
+    requires true_doors { All D.is_true held.doors }
     ensures lines { ServedLines
         (record {
-          session = record { store = session_at shared.now.fixed pass.caller pass.seen [] 1 max_update; providers = length shared.now.fixed.houses; by = names_pass.caller; names = names_pass.seen };
-          faults = sum_by D.faults doors;
+          session = record {
+            store = session_at shared.now.fixed held.pass.caller held.pass.seen [] 1 max_update;
+            providers = length shared.now.fixed.houses;
+            by = held.names.caller;
+            names = held.names.seen;
+          };
+          faults = sum_by D.faults held.doors;
           written = K.written out.old;
         })
         (record { given = S.given script.old; left = S.left script.old; ends = S.ends script.old })
         (record { given = S.given script.new; left = S.left script.new; ends = S.ends script.new })
-        (events result.1.seen) result.2.seen (sum_by D.faults result.3) (K.written out.new) result.0 }
-    ensures pass { IsPassOf shared.now result.1 }
-    ensures names { result.2 ≡ record names_pass { seen = result.2.seen; turns = result.2.turns } }
-    ensures doors { length result.3 ≡ shared.now.providers }
+        (events result.1.pass.seen) result.1.names.seen (sum_by D.faults result.1.doors) (K.written out.new) result.0 }
+    ensures pass { IsPassOf shared.now result.1.pass }
+    ensures names { result.1.names ≡ record held.names { seen = result.1.names.seen; turns = result.1.names.turns } }
+    ensures doors { length result.1.doors ≡ shared.now.providers }
     ensures read_faults { RoseBy (end_read_faults result.0) (S.read_faults script.old) (S.read_faults script.new) }
     ensures write_faults { RoseBy (end_write_faults result.0) (K.write_faults out.old) (K.write_faults out.new) }
 {
+    let Held {
+        pass,
+        names: names_pass,
+        doors,
+    } = held;
     let session = match Session::new(alloc, shared, gate, pass, doors) {
         Ok(session) => session,
-        Err((pass, doors)) => return (End::NoMemory, pass, names_pass, doors),
+        Err((pass, doors)) => {
+            let names = names_pass;
+            return (End::NoMemory, Held { pass, names, doors });
+        }
     };
     let mut files = FileSession::new(alloc, session, names, names_pass);
     let end = serve_files(rt, alloc, &mut files, script, out, INPUT_LIMIT);
-    let (session, names_pass) = files.into_parts();
+    let (session, names) = files.into_parts();
     let (pass, doors) = session.into_parts();
-    (end, pass, names_pass, doors)
+    (end, Held { pass, names, doors })
 }
 
 // Serves lines by a file session with new names, of which it has the one pass, closes the names, and gives the store's pass and the doors back.
@@ -113,9 +131,17 @@ fn serve_named<R: Wait + Threads + Sync, S: Source, K: Sink, D: BesideDoor, G: G
         // No pass was made yet.
         unreachable!()
     };
-    let (end, pass, names_pass, doors) = serve_session(
-        rt, alloc, shared, &names, gate, pass, names_pass, doors, script, out,
-    );
+    let held = Held {
+        pass,
+        names: names_pass,
+        doors,
+    };
+    let (end, held) = serve_session(rt, alloc, shared, &names, gate, held, script, out);
+    let Held {
+        pass,
+        names: names_pass,
+        doors,
+    } = held;
     owner.take_back(&names, names_pass);
     let Ok(tree) = owner.close(names) else {
         // No pass is out.
