@@ -33,14 +33,14 @@ use Rattle.file_names.specs.declared.tree.EnterFault.TheVariants as EnterFaults
 use Rattle.file_names.specs.declared.tree.FindFault.{FindFault}
 use Rattle.file_names.specs.declared.tree.FindFault.TheVariants as FindFaults
 use Rattle.file_names.specs.declared.tree.ListFault.TheVariants as ListFaults
-use Rattle.file_text.specs.Lines.{IsWellHeard, AllWellHeard}
-use Rattle.file_text.specs.declared.form.FileLine.{FileLine}
-use Rattle.file_text.specs.declared.form.FileLine.TheVariants as Lines
-use Rattle.file_text.specs.declared.form.FileReply.{FileReply}
-use Rattle.file_text.specs.declared.form.FileReply.TheVariants as Says
-use Rattle.file_text.specs.declared.form.FileFault.TheVariants as FileFaults
-use Rattle.file_text.specs.declared.form.FileHeard.{FileHeard}
-use Rattle.file_text.specs.declared.form.FileHeard.TheVariants.{Asked, Wrong}
+use Rattle.file_names.specs.Lines.{IsWellHeard, AllWellHeard}
+use Rattle.file_names.specs.declared.form.FileLine.{FileLine}
+use Rattle.file_names.specs.declared.form.FileLine.TheVariants as Lines
+use Rattle.file_names.specs.declared.form.FileReply.{FileReply}
+use Rattle.file_names.specs.declared.form.FileReply.TheVariants as Says
+use Rattle.file_names.specs.declared.form.FileFault.TheVariants as FileFaults
+use Rattle.file_names.specs.declared.form.FileHeard.{FileHeard}
+use Rattle.file_names.specs.declared.form.FileHeard.TheVariants.{Asked, Wrong}
 use Rattle.file_layer.specs.Files.{Files, nobody, with_names, with_store, LooksAtNames, AsksStore, AsksOf, OnBlob, MakesFile, OnFree, OnStat, WhereAnswer, FileItemReply, enter_refused, find_refused, recent_reply, store_fault}
 use Rattle.file_layer.specs.Faults.{file_fault_count, found_faults, file_item_faults}
 

@@ -15,11 +15,11 @@ use Rattle.server_core.specs.Conversing.{AnswersFront}
 use Rattle.server_core.specs.Conversed as Served
 use Rattle.server_core.specs.Conversed.{CameToEnd, end_read_faults, end_write_faults}
 use Rattle.file_names.specs.Tree as Names
-use Rattle.file_text.specs.Lines.{heard, AllWellHeard}
-use Rattle.file_text.proofs.Hearing.{files_not_cut, files_well, whole_files_well, until_well, later_well}
-use Rattle.file_text.specs.Said.{said}
-use Rattle.file_text.specs.declared.form.FileHeard.{FileHeard}
-use Rattle.file_text.specs.declared.form.FileReply.{FileReply}
+use Rattle.file_names.specs.Lines.{heard, AllWellHeard}
+use Rattle.file_names.proofs.Hearing.{files_not_cut, files_well, whole_files_well, until_well, later_well}
+use Rattle.file_names.specs.Said.{said}
+use Rattle.file_names.specs.declared.form.FileHeard.{FileHeard}
+use Rattle.file_names.specs.declared.form.FileReply.{FileReply}
 use Rattle.file_layer.specs.Files.{Files, nobody, FileItemReply}
 use Rattle.file_layer.specs.Faults.{file_item_faults}
 use Rattle.file_layer.specs.Laws.{AllBy, SeesOwn}

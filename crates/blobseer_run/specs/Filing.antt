@@ -8,10 +8,10 @@ use Rattle.request_form.specs.Transcript.{first_session}
 use Rattle.server_core.specs.Conversed.{Input}
 use Rattle.server_core.specs.declared.flow.End.{End}
 use Rattle.file_names.specs.Tree as Names
-use Rattle.file_text.specs.Lines.{heard}
-use Rattle.file_text.specs.Said.{said}
-use Rattle.file_text.specs.declared.form.FileHeard.{FileHeard}
-use Rattle.file_text.specs.declared.form.FileReply.{FileReply}
+use Rattle.file_names.specs.Lines.{heard}
+use Rattle.file_names.specs.Said.{said}
+use Rattle.file_names.specs.declared.form.FileHeard.{FileHeard}
+use Rattle.file_names.specs.declared.form.FileReply.{FileReply}
 use Rattle.file_layer.specs.Files.{Files, nobody, FileItemReply}
 use Rattle.file_layer.specs.Faults.{file_item_faults}
 use Rattle.file_layer.specs.Laws.{AllBy, AnsweredByMap}

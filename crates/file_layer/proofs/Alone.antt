@@ -22,11 +22,11 @@ use Rattle.file_names.specs.declared.tree.Stat.TheVariants as Stats
 use Rattle.file_names.specs.declared.tree.EnterFault.{EnterFault}
 use Rattle.file_names.specs.declared.tree.EnterFault.TheVariants as EnterFaults
 use Rattle.file_names.specs.declared.tree.FindFault.{FindFault}
-use Rattle.file_text.specs.declared.form.FileLine.{FileLine}
-use Rattle.file_text.specs.declared.form.FileLine.TheVariants as Lines
-use Rattle.file_text.specs.declared.form.FileReply.{FileReply}
-use Rattle.file_text.specs.declared.form.FileHeard.{FileHeard}
-use Rattle.file_text.specs.declared.form.FileHeard.TheVariants.{Asked, Wrong}
+use Rattle.file_names.specs.declared.form.FileLine.{FileLine}
+use Rattle.file_names.specs.declared.form.FileLine.TheVariants as Lines
+use Rattle.file_names.specs.declared.form.FileReply.{FileReply}
+use Rattle.file_names.specs.declared.form.FileHeard.{FileHeard}
+use Rattle.file_names.specs.declared.form.FileHeard.TheVariants.{Asked, Wrong}
 use Rattle.file_layer.specs.Files.{Files, among_others, nobody, with_store, LooksAtNames, EntersNames, AsksStore, AsksOf, OnBlob, OnFile, MakesFile, OnFree, OnRecent, OnStat, WhereAnswer, FileAnswers, FileItemReply}
 use Rattle.file_layer.specs.Faults.{file_item_faults}
 use Rattle.file_layer.specs.Laws.{AllBy, SeesOwn}

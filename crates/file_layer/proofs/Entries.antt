@@ -16,12 +16,12 @@ use Rattle.file_names.specs.declared.tree.Stat.TheVariants as Stats
 use Rattle.file_names.specs.declared.tree.EnterFault.{EnterFault}
 use Rattle.file_names.specs.declared.tree.EnterFault.TheVariants as EnterFaults
 use Rattle.file_names.specs.declared.tree.FindFault.{FindFault}
-use Rattle.file_text.specs.declared.form.FileLine.{FileLine}
-use Rattle.file_text.specs.declared.form.FileLine.TheVariants as Lines
-use Rattle.file_text.specs.declared.form.FileReply.{FileReply}
-use Rattle.file_text.specs.declared.form.FileReply.TheVariants as Says
-use Rattle.file_text.specs.declared.form.FileHeard.{FileHeard}
-use Rattle.file_text.specs.declared.form.FileHeard.TheVariants.{Asked, Wrong}
+use Rattle.file_names.specs.declared.form.FileLine.{FileLine}
+use Rattle.file_names.specs.declared.form.FileLine.TheVariants as Lines
+use Rattle.file_names.specs.declared.form.FileReply.{FileReply}
+use Rattle.file_names.specs.declared.form.FileReply.TheVariants as Says
+use Rattle.file_names.specs.declared.form.FileHeard.{FileHeard}
+use Rattle.file_names.specs.declared.form.FileHeard.TheVariants.{Asked, Wrong}
 use Rattle.request_form.specs.Session.{Session, sees}
 use Rattle.file_layer.specs.Files.{Files, among_others, with_store, LooksAtNames, EntersNames, OnBlob, OnFile, MakesFile, OnFree, OnStat, WhereAnswer, FileAnswers, FileItemReply, store_fault, enter_refused, entered_reply}
 use Rattle.file_layer.specs.Laws.{Enters, folder_made, file_made, line_made, item_made, all_made}

@@ -11,7 +11,7 @@ use Rattle.std.proofs.lemmas.List.{length-map}
 use Rattle.std.proofs.lemmas.List.Elements.{All-map, All-weaker}
 use Rattle.page_store.specs.House.{House}
 use Rattle.page_store.specs.Page.{Spot, IsAmong}
-use Rattle.file_text.specs.declared.form.PageHolders.{PageHolders}
+use Rattle.file_names.specs.declared.form.PageHolders.{PageHolders}
 use Rattle.file_layer.specs.Files.{Files, LieAt, ArePlaces, pages_of}
 use Rattle.range_log.specs.Visits.{pages_met}
 use Rattle.faults.specs.declared.no_memory.NoMemory.{NoMemory}

@@ -40,13 +40,13 @@ use Rattle.file_names.specs.declared.tree.Stat.{Stat}
 use Rattle.file_names.specs.declared.tree.EnterFault.{EnterFault}
 use Rattle.file_names.specs.declared.tree.EnterFault.TheVariants as EnterFaults
 use Rattle.file_names.specs.declared.tree.FindFault.{FindFault}
-use Rattle.file_text.specs.declared.form.FileLine.{FileLine}
-use Rattle.file_text.specs.declared.form.FileLine.TheVariants as Lines
-use Rattle.file_text.specs.declared.form.FileReply.{FileReply}
-use Rattle.file_text.specs.declared.form.FileReply.TheVariants as Says
-use Rattle.file_text.specs.declared.form.FileHeard.{FileHeard}
-use Rattle.file_text.specs.declared.form.FileHeard.TheVariants.{Asked, Wrong}
-use Rattle.file_text.specs.Lines.{IsWellHeard, AllWellHeard}
+use Rattle.file_names.specs.declared.form.FileLine.{FileLine}
+use Rattle.file_names.specs.declared.form.FileLine.TheVariants as Lines
+use Rattle.file_names.specs.declared.form.FileReply.{FileReply}
+use Rattle.file_names.specs.declared.form.FileReply.TheVariants as Says
+use Rattle.file_names.specs.declared.form.FileHeard.{FileHeard}
+use Rattle.file_names.specs.declared.form.FileHeard.TheVariants.{Asked, Wrong}
+use Rattle.file_names.specs.Lines.{IsWellHeard, AllWellHeard}
 use Rattle.file_layer.specs.Files.{Files, nobody, with_store, with_names, LooksAtNames, EntersNames, AsksOf, OnBlob, OnFile, MkdirAnswer, MakesFile, OnFree, OnRecent, OnStat, WhereAnswer, TellsWhere, FileAnswers, FileItemReply, file_reply, recent_reply, store_fault, enter_refused, entered_reply, list_reply}
 use Rattle.file_layer.specs.PathMap.{Thing, HeldAppend, PathMap, thing_at, put_in, held_in, without_held, and_thing, and_held, puts, new_file, new_fault, bytes_fault, append_refusal, read_refusal, folds_at, appended, SaysFault, UnlessFault, FolderSays, FileSays, MakeSays, AppendSays, ReadSays, WhereSays, FinishSays, HeldSays, TicketSays, AtFile, MapAnswers, MapItemReply}
 use Rattle.file_layer.specs.PathMap as Maps

@@ -15,11 +15,11 @@ use Rattle.request_form.specs.declared.form.Fault.{Fault}
 use Rattle.request_form.specs.declared.form.Fault.TheVariants as Faults
 use Rattle.file_names.specs.declared.tree.EnterFault.{EnterFault}
 use Rattle.file_names.specs.declared.tree.EnterFault.TheVariants as EnterFaults
-use Rattle.file_text.specs.declared.form.FileLine.{FileLine}
-use Rattle.file_text.specs.declared.form.FileLine.TheVariants as Lines
-use Rattle.file_text.specs.declared.form.FileReply.{FileReply}
-use Rattle.file_text.specs.declared.form.FileHeard.{FileHeard}
-use Rattle.file_text.specs.declared.form.FileHeard.TheVariants.{Asked, Wrong}
+use Rattle.file_names.specs.declared.form.FileLine.{FileLine}
+use Rattle.file_names.specs.declared.form.FileLine.TheVariants as Lines
+use Rattle.file_names.specs.declared.form.FileReply.{FileReply}
+use Rattle.file_names.specs.declared.form.FileHeard.{FileHeard}
+use Rattle.file_names.specs.declared.form.FileHeard.TheVariants.{Asked, Wrong}
 use Rattle.file_layer.specs.Files.{store_fault, enter_refused}
 use Rattle.file_layer.specs.PathMap.{Thing, HeldAppend, PathMap, thing_at, held_in, new_fault, bytes_fault, append_refusal, read_refusal, UnlessFault, FolderSays, FileSays, MakeSays, AppendSays, ReadSays, WhereSays, FinishSays, HeldSays, TicketSays, AtFile, stat_reply, ListSays, MapAnswers, MapItemReply}
 use Rattle.file_layer.specs.Laws.{NamesNoBlob}

@@ -23,7 +23,7 @@ use Rattle.file_names.specs.declared.tree.FindFault.{FindFault}
 use Rattle.file_names.specs.declared.tree.FindFault.TheVariants as FindFaults
 use Rattle.file_names.specs.declared.tree.ListFault.{ListFault}
 use Rattle.file_names.specs.declared.tree.ListFault.TheVariants as ListFaults
-use Rattle.file_text.specs.declared.form.FileReply.TheVariants as Says
+use Rattle.file_names.specs.declared.form.FileReply.TheVariants as Says
 use Rattle.file_layer.specs.Files.{list_reply}
 use Rattle.file_layer.specs.PathMap.{Thing, PathMap, AreIn, thing_in, thing_at, entries_of, is_folder, with_content, put_in, fault_below, new_fault, ListSays}
 

@@ -13,9 +13,9 @@ use Rattle.server_core.specs.declared.flow.End.{End}
 use Rattle.server_core.specs.declared.flow.End.TheVariants as Ends
 use Rattle.server_core.proofs.Conversed.{Conversed-none}
 use Rattle.server_core.proofs.Exact.{exactly}
-use Rattle.file_text.specs.Lines.{heard, AllWellHeard}
-use Rattle.file_text.specs.declared.form.FileHeard.{FileHeard}
-use Rattle.file_text.proofs.Hearing.{files_not_cut, files_well, whole_files_well, until_well, front_well}
+use Rattle.file_names.specs.Lines.{heard, AllWellHeard}
+use Rattle.file_names.specs.declared.form.FileHeard.{FileHeard}
+use Rattle.file_names.proofs.Hearing.{files_not_cut, files_well, whole_files_well, until_well, front_well}
 use Rattle.file_layer.specs.Served.{FilePoint, file_talk, is_last, ServedFiles}
 use Rattle.file_layer.proofs.Alone.{rounds_alone}
 use Rattle.file_layer.proofs.Entries.{rounds_enter}

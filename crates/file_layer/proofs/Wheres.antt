@@ -19,8 +19,8 @@ use Rattle.request_form.specs.Answers.{read_fault, max_read}
 use Rattle.request_form.specs.Replies.{fault_of}
 use Rattle.request_form.specs.declared.form.Fault.{Fault}
 use Rattle.request_form.specs.declared.form.Fault.TheVariants as Faults
-use Rattle.file_text.specs.declared.form.FileReply.{FileReply}
-use Rattle.file_text.specs.declared.form.PageHolders.{PageHolders}
+use Rattle.file_names.specs.declared.form.FileReply.{FileReply}
+use Rattle.file_names.specs.declared.form.PageHolders.{PageHolders}
 use Rattle.file_layer.specs.Files.{Gaps, Files, with_store, store_fault, ArePlaces, TellsWhere, WhereAnswer, Opens, PlacesSaid}
 use Rattle.file_layer.specs.Sessions.{said_of}
 

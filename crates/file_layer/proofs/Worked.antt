@@ -5,11 +5,11 @@ use Rattle.std.proofs.lemmas.List.Elements.{All-cons, All-nil}
 use Rattle.items.specs.Rounds.{Rounds}
 use Rattle.blob_model.specs.Limits.{greatest}
 use Rattle.blob_model.specs.Store.{Blob, finish}
-use Rattle.file_text.specs.declared.form.FileLine.TheVariants as Lines
-use Rattle.file_text.specs.declared.form.FileReply.TheVariants as Says
-use Rattle.file_text.specs.declared.form.FileFault.TheVariants as FileFaults
-use Rattle.file_text.specs.declared.form.FileHeard.TheVariants.{Asked}
-use Rattle.file_text.specs.declared.form.PageHolders.{PageHolders}
+use Rattle.file_names.specs.declared.form.FileLine.TheVariants as Lines
+use Rattle.file_names.specs.declared.form.FileReply.TheVariants as Says
+use Rattle.file_names.specs.declared.form.FileFault.TheVariants as FileFaults
+use Rattle.file_names.specs.declared.form.FileHeard.TheVariants.{Asked}
+use Rattle.file_names.specs.declared.form.PageHolders.{PageHolders}
 use Rattle.file_layer.specs.Files.{LieAt, ArePlacesOf, refused}
 use Rattle.file_layer.specs.PathMap.{Thing, PathMap, new_map, new_file, and_thing, and_blob, puts, appended, FileSays, AppendSays, WhereSays, MapItemReply}
 

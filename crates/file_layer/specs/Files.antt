@@ -33,15 +33,15 @@ use Rattle.file_names.specs.declared.tree.FindFault.{FindFault}
 use Rattle.file_names.specs.declared.tree.FindFault.TheVariants as FindFaults
 use Rattle.file_names.specs.declared.tree.ListFault.{ListFault}
 use Rattle.file_names.specs.declared.tree.ListFault.TheVariants as ListFaults
-use Rattle.file_text.specs.declared.form.FileLine.{FileLine}
-use Rattle.file_text.specs.declared.form.FileLine.TheVariants as Lines
-use Rattle.file_text.specs.declared.form.FileReply.{FileReply}
-use Rattle.file_text.specs.declared.form.FileReply.TheVariants as Says
-use Rattle.file_text.specs.declared.form.FileFault.{FileFault}
-use Rattle.file_text.specs.declared.form.FileFault.TheVariants as FileFaults
-use Rattle.file_text.specs.declared.form.FileHeard.{FileHeard}
-use Rattle.file_text.specs.declared.form.FileHeard.TheVariants.{Asked, Wrong}
-use Rattle.file_text.specs.declared.form.PageHolders.{PageHolders}
+use Rattle.file_names.specs.declared.form.FileLine.{FileLine}
+use Rattle.file_names.specs.declared.form.FileLine.TheVariants as Lines
+use Rattle.file_names.specs.declared.form.FileReply.{FileReply}
+use Rattle.file_names.specs.declared.form.FileReply.TheVariants as Says
+use Rattle.file_names.specs.declared.form.FileFault.{FileFault}
+use Rattle.file_names.specs.declared.form.FileFault.TheVariants as FileFaults
+use Rattle.file_names.specs.declared.form.FileHeard.{FileHeard}
+use Rattle.file_names.specs.declared.form.FileHeard.TheVariants.{Asked, Wrong}
+use Rattle.file_names.specs.declared.form.PageHolders.{PageHolders}
 
 -- a file session: its session of the store, which has so many providers, its caller at the names, and what it has seen of their history
 pub record Files : Type 0 where

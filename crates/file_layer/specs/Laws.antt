@@ -9,13 +9,13 @@ use Rattle.request_form.specs.declared.form.Fault.TheVariants as Faults
 use Rattle.file_names.specs.Tree.{NameLog}
 use Rattle.file_names.specs.declared.tree.Named.TheVariants as Nameds
 use Rattle.file_names.specs.declared.tree.Entered.{Entered}
-use Rattle.file_text.specs.Lines.{AllWellHeard}
-use Rattle.file_text.specs.declared.form.FileLine.{FileLine}
-use Rattle.file_text.specs.declared.form.FileLine.TheVariants as Lines
-use Rattle.file_text.specs.declared.form.FileReply.{FileReply}
-use Rattle.file_text.specs.declared.form.FileReply.TheVariants as Says
-use Rattle.file_text.specs.declared.form.FileHeard.{FileHeard}
-use Rattle.file_text.specs.declared.form.FileHeard.TheVariants.{Asked, Wrong}
+use Rattle.file_names.specs.Lines.{AllWellHeard}
+use Rattle.file_names.specs.declared.form.FileLine.{FileLine}
+use Rattle.file_names.specs.declared.form.FileLine.TheVariants as Lines
+use Rattle.file_names.specs.declared.form.FileReply.{FileReply}
+use Rattle.file_names.specs.declared.form.FileReply.TheVariants as Says
+use Rattle.file_names.specs.declared.form.FileHeard.{FileHeard}
+use Rattle.file_names.specs.declared.form.FileHeard.TheVariants.{Asked, Wrong}
 use Rattle.file_layer.specs.Files.{Files, among_others, nobody, store_fault, FileItemReply}
 use Rattle.file_layer.specs.PathMap.{PathMap, new_map, MapItemReply}
 

@@ -23,14 +23,14 @@ use Rattle.file_names.specs.Tree.{most_names, listed_as}
 use Rattle.file_names.specs.declared.tree.Listed.{Listed}
 use Rattle.file_names.specs.declared.tree.EnterFault.{EnterFault}
 use Rattle.file_names.specs.declared.tree.EnterFault.TheVariants as EnterFaults
-use Rattle.file_text.specs.declared.form.FileLine.{FileLine}
-use Rattle.file_text.specs.declared.form.FileLine.TheVariants as Lines
-use Rattle.file_text.specs.declared.form.FileReply.{FileReply}
-use Rattle.file_text.specs.declared.form.FileReply.TheVariants as Says
-use Rattle.file_text.specs.declared.form.FileFault.TheVariants as FileFaults
-use Rattle.file_text.specs.declared.form.FileHeard.{FileHeard}
-use Rattle.file_text.specs.declared.form.FileHeard.TheVariants.{Asked, Wrong}
-use Rattle.file_text.specs.declared.form.PageHolders.{PageHolders}
+use Rattle.file_names.specs.declared.form.FileLine.{FileLine}
+use Rattle.file_names.specs.declared.form.FileLine.TheVariants as Lines
+use Rattle.file_names.specs.declared.form.FileReply.{FileReply}
+use Rattle.file_names.specs.declared.form.FileReply.TheVariants as Says
+use Rattle.file_names.specs.declared.form.FileFault.TheVariants as FileFaults
+use Rattle.file_names.specs.declared.form.FileHeard.{FileHeard}
+use Rattle.file_names.specs.declared.form.FileHeard.TheVariants.{Asked, Wrong}
+use Rattle.file_names.specs.declared.form.PageHolders.{PageHolders}
 use Rattle.file_layer.specs.Files.{store_fault, enter_refused, ArePlacesOf}
 
 -- what a path is: a folder, or a file, with the number of its blob, its updates, and which of them are finished

@@ -4,8 +4,8 @@ use Rattle.turn_lock.specs.Shown.{PassView}
 use Rattle.faults.specs.declared.no_memory.NoMemory.{NoMemory}
 use Rattle.client_session.specs.Sessions.{SessionState, session_of, Continues}
 use Rattle.file_names.specs.declared.tree.Entered.{Entered}
-use Rattle.file_text.specs.declared.form.FileReply.{FileReply}
-use Rattle.file_text.specs.declared.form.FileReply.TheVariants as Says
+use Rattle.file_names.specs.declared.form.FileReply.{FileReply}
+use Rattle.file_names.specs.declared.form.FileReply.TheVariants as Says
 use Rattle.file_layer.specs.Files.{Files}
 
 -- a session of the store, and a pass of the names

@@ -5,12 +5,12 @@ ghost use Rattle.page_store.specs.House.{House};
 ghost use Rattle.page_store.specs.Page.{Spot, IsAmong};
 ghost use Rattle.snapshot.specs.Versions.{NodesLieIn, PagesLieIn, size_now};
 ghost use Rattle.range_log.specs.Visits.{pages_met};
-ghost use Rattle.file_text.specs.declared.form.PageHolders.{PageHolders};
+ghost use Rattle.file_names.specs.declared.form.PageHolders.{PageHolders};
 ghost use Rattle.file_layer.specs.Files.{LieAt, pages_of};
 ghost use Rattle.file_layer.specs.Places.{AddsPage};
 
 use faults::NoMemory;
-use file_text::{Holders, PageHolders, Providers};
+use file_names::{Holders, PageHolders, Providers};
 use node_store::NodeHouse;
 use page_store::StoredPage;
 use range_reader::holder;

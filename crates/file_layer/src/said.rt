@@ -6,13 +6,12 @@ ghost use Rattle.client_session.specs.Results.{updated_reply, finish_reply, read
 ghost use Rattle.file_layer.specs.Files.{file_reply, recent_reply, store_fault, find_refused, enter_refused, list_reply, IsRecent};
 ghost use Rattle.file_layer.specs.Sessions.{said_of};
 ghost use Rattle.file_names.specs.Paths.{parent_of};
-ghost use Rattle.file_text.specs.declared.form.FileFault.TheVariants as FileFaults;
+ghost use Rattle.file_names.specs.declared.form.FileFault.TheVariants as FileFaults;
 
 use blob_model::{Bytes, Outcome};
 use client_session::{Done, Started, Updated};
 use faults::NoMemory;
-use file_names::{EnterFault, FindFault, ListFault, Listing, Path};
-use file_text::{FileFault, FileReply};
+use file_names::{EnterFault, FileFault, FileReply, FindFault, ListFault, Listing, Path};
 use request_form::Fault;
 
 // What the store's session refuses.

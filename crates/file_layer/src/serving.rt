@@ -3,7 +3,7 @@ ghost use Rattle.std.specs.Prelude.{◌≡◌, ◌≤◌, [], sum_by};
 ghost use denote.Param.Send.{IsSync};
 ghost use Rattle.faults.specs.Counts.{RoseBy};
 ghost use Rattle.server_core.specs.Conversed.{Conversed, end_read_faults, end_write_faults, end_ends};
-ghost use Rattle.file_text.specs.Lines.{IsWellHeard};
+ghost use Rattle.file_names.specs.Lines.{IsWellHeard};
 ghost use Rattle.file_layer.specs.Files.{among_others, FileItemReply};
 ghost use Rattle.file_layer.specs.Faults.{file_item_faults};
 ghost use Rattle.file_layer.specs.Sessions.{files_of, said_of};
@@ -12,7 +12,7 @@ ghost use Rattle.file_layer.specs.Served.{file_talk, ServedFiles, kept_of};
 use crate::said::said_of_fault;
 use crate::session::FileSession;
 use faults::NoMemory;
-use file_text::{FileDialect, FileHeard, FileLine, FileReply};
+use file_names::{FileDialect, FileHeard, FileLine, FileReply};
 use items::Ending;
 use page_fan::BesideDoor;
 use ports::gate::Gate;
@@ -79,9 +79,9 @@ impl<'a, D: BesideDoor, G: Gate> FileService for FileSession<'a, D, G> {
 trait LineDialect {
     ghost use Rattle.std.specs.Prelude.{◌≡◌, ◌++◌, ℕ, List, [], OnOk, IfOk};
     ghost use Rattle.items.specs.Items.{ItemStream, IsFed, IsNextItem, IsEndOf};
-    ghost use Rattle.file_text.specs.Lines.{IsWellHeard};
-    ghost use Rattle.file_text.specs.Said.{said};
-    ghost use Rattle.file_text.specs.declared.form.FileHeard.{FileHeard};
+    ghost use Rattle.file_names.specs.Lines.{IsWellHeard};
+    ghost use Rattle.file_names.specs.Said.{said};
+    ghost use Rattle.file_names.specs.declared.form.FileHeard.{FileHeard};
 
     // What is still to be heard, where the stream goes on by these bytes and then ends.
     ghost reads: { Self → List ℕ → ItemStream FileHeard };
@@ -106,7 +106,7 @@ trait LineDialect {
 
 impl LineDialect for FileDialect {
     ghost use Rattle.std.specs.Prelude.{◌++◌};
-    ghost use Rattle.file_text.specs.Lines.{heard};
+    ghost use Rattle.file_names.specs.Lines.{heard};
 
     ghost reads = { λ d more. heard (d ++ more) };
 

@@ -10,7 +10,7 @@ ghost use Rattle.request_form.specs.declared.form.Request.TheVariants as Request
 ghost use Rattle.client_session.specs.Results.{create_reply, updated_reply, finish_reply, read_reply};
 ghost use Rattle.file_names.specs.Tree.{blob_at, stat_at, enter_fault, Lists};
 ghost use Rattle.file_names.specs.declared.tree.Named.TheVariants as Nameds;
-ghost use Rattle.file_text.specs.declared.form.FileLine.TheVariants as Lines;
+ghost use Rattle.file_names.specs.declared.form.FileLine.TheVariants as Lines;
 ghost use Rattle.file_layer.specs.Files.{among_others, LooksAtNames, EntersNames, AsksStore, AsksOf, MakesFile, OnRecent, Opens, PlacesSaid, ArePlaces, WhereAnswer, FileAnswers};
 ghost use Rattle.client_session.specs.Opening.{IsOfStore};
 ghost use Rattle.snapshot.specs.Versions.{size_now};
@@ -27,10 +27,9 @@ use blob_model::{Bytes, Outcome};
 use client_session::{Session, Updated};
 use faults::NoMemory;
 use file_names::{
-    Enter, EnterFault, Find, FindFault, Foresee, List, ListFault, Listing, Look, Named, Names,
-    Path, Stat,
+    Enter, EnterFault, FileFault, FileLine, FileReply, Find, FindFault, Foresee, Holders, List,
+    ListFault, Listing, Look, Named, Names, Path, Stat,
 };
-use file_text::{FileFault, FileLine, FileReply, Holders};
 use page_fan::BesideDoor;
 use page_store::Door;
 use ports::gate::Gate;

@@ -4,3 +4,7 @@ pub mod Children
 pub mod Maps
 pub mod Entering
 pub mod Listings
+pub mod Hearing
+mod LinesWorked
+mod FieldLemmas
+mod NumberLemmas

@@ -2,3 +2,5 @@ pub mod Paths
 pub mod Tree
 pub mod Turns
 pub mod Folders
+pub mod Lines
+pub mod Said

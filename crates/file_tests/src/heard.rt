@@ -3,8 +3,7 @@
 use blob_model::Bytes;
 use client_session::Fault;
 use file_layer::FileSession;
-use file_names::Path;
-use file_text::{FileFault, FileLine, FileReply};
+use file_names::{FileFault, FileLine, FileReply, Path};
 use page_store::PlainDoor;
 use ports::gate::FreeGate;
 use std::alloc::Global;

@@ -1,5 +1,5 @@
 use Rattle.std.proofs.Common.{◌≡◌, ◌≤◌, ◌+◌, length, map, All, sym, ap, ◌∙◌, subst, arith}
-use Rattle.file_text.specs.declared.form.PageHolders.{PageHolders}
+use Rattle.file_names.specs.declared.form.PageHolders.{PageHolders}
 use Rattle.file_layer.specs.Files.{LieAt}
 use Rattle.file_layer.proofs.Lying.{page_added, lie_added, all_met, in_order}
 use Rattle.file_layer.proofs.places.places_met.Goals as goal

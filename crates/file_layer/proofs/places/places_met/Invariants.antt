@@ -2,7 +2,7 @@ use Rattle.std.proofs.Common.{◌≡◌, ◌-◌, List, length, map, All}
 use Rattle.std.specs.List.{range_with_len}
 use Rattle.page_store.specs.House.{House}
 use Rattle.snapshot.specs.Versions.{PagesLieIn}
-use Rattle.file_text.specs.declared.form.PageHolders.{PageHolders}
+use Rattle.file_names.specs.declared.form.PageHolders.{PageHolders}
 use Rattle.file_layer.specs.Files.{LieAt}
 use Rattle.file_layer.proofs.places.places_met.Given as goal
 

@@ -1,6 +1,6 @@
 use Rattle.std.proofs.Common.{◌≡◌, List, ℕ, [], ◌++◌, refl, sym, subst}
-use Rattle.file_text.specs.Lines.{heard}
-use Rattle.file_text.specs.declared.form.FileHeard.{FileHeard}
+use Rattle.file_names.specs.Lines.{heard}
+use Rattle.file_names.specs.declared.form.FileHeard.{FileHeard}
 use Rattle.file_layer.proofs.StreamEnds.{unserved, served_from}
 use Rattle.file_layer.proofs.serving.serve_lines.Goals as goal
 

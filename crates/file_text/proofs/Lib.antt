@@ -1,4 +1,0 @@
-pub mod Hearing
-mod Worked
-mod FieldLemmas
-mod NumberLemmas

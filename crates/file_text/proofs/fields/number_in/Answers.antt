@@ -1,5 +1,0 @@
-use Rattle.file_text.proofs.NumberLemmas.{no_text}
-use Rattle.file_text.proofs.fields.number_in.Goals as goal
-
-pub returns-in-Err : goal.returns-in-Err
-returns-in-Err c = no_text c.args.field.now c.in-Err.ensures.cases.0

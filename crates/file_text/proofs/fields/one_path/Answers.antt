@@ -1,6 +1,0 @@
-use Rattle.file_text.specs.Lines.{path_of}
-use Rattle.file_text.proofs.FieldLemmas.{not_only}
-use Rattle.file_text.proofs.fields.one_path.Goals as goal
-
-pub returns-in_default-Some : goal.returns-in_default-Some
-returns-in_default-Some c = not_only path_of c.args.text.now c.cut.result.0.now c.in_default-Some.field-0-1.now (rw c.in_default-Some.is-1 at c.cut.ensures)
