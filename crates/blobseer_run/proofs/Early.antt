@@ -1,8 +1,8 @@
 -- How a load or a watch ended that was ended early.
 use Rattle.std.proofs.Common.{◌≡◌, ◌⊎◌, inl, inr, ℕ}
-use Rattle.update_work.specs.Ending.{EndsEarly}
-use Rattle.update_work.specs.declared.ending.EarlyEnd.{EarlyEnd}
-use Rattle.update_work.specs.declared.ending.EarlyEnd.TheVariants as Ends
+use Rattle.workload_run.specs.Ending.{EndsEarly}
+use Rattle.workload_run.specs.declared.ending.EarlyEnd.{EarlyEnd}
+use Rattle.workload_run.specs.declared.ending.EarlyEnd.TheVariants as Ends
 use Rattle.blobseer_run.specs.declared.status.Status.{Status}
 use Rattle.blobseer_run.specs.declared.status.Status.TheVariants as Statuses
 use Rattle.blobseer_run.specs.Outside.{Rises}

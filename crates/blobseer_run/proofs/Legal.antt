@@ -38,7 +38,7 @@ use Rattle.request_form.specs.declared.form.Heard.{Heard}
 use Rattle.request_form.specs.declared.form.Heard.TheVariants.{Asked, Wrong}
 use Rattle.blob_model.proofs.Marks.{AllEven, no_blobs, even_is, even_at, event_even}
 use Rattle.blob_model.proofs.Stays.{store_from-append}
-use Rattle.workload_law.proofs.Marks.{last_mark}
+use Rattle.workload_law.proofs.Later.{last_mark}
 
 -- ---- histories that go on
 

@@ -2,8 +2,8 @@
 use Rattle.std.specs.Prelude.{◌≡◌, ℕ, List, []}
 use Rattle.std.specs.Io.KnownBytes.{Appends}
 use Rattle.blob_model.specs.declared.call.Event.{Event}
-use Rattle.update_work.specs.declared.ending.EarlyEnd.{EarlyEnd}
-use Rattle.update_work.specs.declared.ending.EarlyEnd.TheVariants as Ends
+use Rattle.workload_run.specs.declared.ending.EarlyEnd.{EarlyEnd}
+use Rattle.workload_run.specs.declared.ending.EarlyEnd.TheVariants as Ends
 use Rattle.blobseer_run.specs.declared.status.Status.{Status}
 use Rattle.blobseer_run.specs.declared.status.Status.TheVariants as Statuses
 use Rattle.blobseer_run.specs.Status.{out_of_memory, load_ended_early}

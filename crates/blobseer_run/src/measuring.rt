@@ -3,7 +3,7 @@ ghost use Rattle.std.specs.Prelude.{◌≡◌};
 ghost use Rattle.blobseer_run.specs.Measuring.{status_of};
 
 use crate::status::Status;
-use update_work::EarlyEnd;
+use workload_run::EarlyEnd;
 
 /// How a measure ends that was ended early.
 pub(crate) fn status_of(end: EarlyEnd) -> Status

@@ -1,6 +1,6 @@
 //! A worker of a load that stops at an update which it holds: it finishes the update before it lets it go, however often that is hindered.
 ghost use Rattle.client_session.specs.Sessions.{session_of};
-ghost use Rattle.update_work.specs.Updates.{IsReady};
+ghost use Rattle.workload_run.specs.Updates.{IsReady};
 
 use crate::calls::{check, finish, start, status, written};
 use crate::store::{Flaky, Plain, flaky_session, plain_session, store_of};
@@ -11,7 +11,7 @@ use std::process::Abort;
 use std::sync::Wait;
 use std::thread;
 use std::thread::Threads;
-use update_work::{Stopped, update};
+use workload_run::{Stopped, update};
 
 type Other<'a> = Plain<'a, FreeGate>;
 

@@ -2,7 +2,7 @@
 ghost use Rattle.std.specs.Prelude.{◌≡◌};
 ghost use Rattle.provider_manager.specs.Book.{AreCounts};
 ghost use Rattle.client_session.specs.Sessions.{IsOwnerOf, session_of};
-ghost use Rattle.update_work.specs.Updates.{IsReady};
+ghost use Rattle.workload_run.specs.Updates.{IsReady};
 
 use crate::calls::status_of;
 use blob_model::Limits;

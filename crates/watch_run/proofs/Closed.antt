@@ -1,7 +1,7 @@
 -- What a watch came to, and why it ended early, once its store is closed.
-use Rattle.std.proofs.Common.{◌≡◌, ◌≢◌, ◌⊎◌, inl, inr, ℕ, zero, suc, ◌+◌, ◌*◌, ◌<◌, ◌≤◌, ◌==◌, true, false, List, [], ◌∷◌, ◌++◌, length, refl, sym, ap, subst, ◌∙◌, append_assoc, append-nil, arith, Contains, get_or}
+use Rattle.std.proofs.Common.{◌≡◌, ◌≢◌, ◌⊎◌, inl, inr, ℕ, zero, suc, ◌+◌, ◌*◌, ◌<◌, ◌≤◌, List, [], ◌∷◌, ◌++◌, length, refl, sym, ap, subst, ◌∙◌, append_assoc, append-nil, arith, Contains, get_or}
 use Rattle.std.specs.Prelude.{Option, Some, None, Result, Ok, Err, All}
-use Rattle.std.proofs.lemmas.Bool.{true≢false}
+use Rattle.std.proofs.lemmas.Bool.{cases_eq, cases_lt, true≢false}
 use Rattle.std.proofs.lemmas.List.{length-append, length-map}
 use Rattle.std.proofs.lemmas.List.Elements.{All-push}
 use Rattle.blob_model.specs.Content.{size_of}
@@ -28,10 +28,11 @@ use Rattle.request_form.specs.declared.form.Reply.TheVariants as Replies
 use Rattle.request_form.specs.declared.form.Fault.{Fault}
 use Rattle.request_form.specs.declared.form.Fault.TheVariants as Faults
 use Rattle.workload_law.specs.Ends.{IsOutside, NoPage, UpdateHindered, CreateHindered}
-use Rattle.workload_law.proofs.Closing.{nobodys_are_none, no_front}
-use Rattle.workload_law.proofs.Lost.{outside_as}
+use Rattle.workload_law.proofs.Closing.{nobodys_are_none}
+use Rattle.workload_law.proofs.OwnEvents.{both_empty, none_parts}
+use Rattle.workload_law.proofs.Later.{outside_as}
 use Rattle.workload_law.proofs.OneCaller.{legal_front}
-use Rattle.update_work.proofs.Returns.{none_by, events_append}
+use Rattle.workload_run.proofs.Returns.{none_by, events_append}
 use Rattle.workload_law.specs.declared.watch_plan.WatchPlan.{WatchPlan}
 use Rattle.workload_law.specs.declared.watch_plan.WatchSummary.{WatchSummary}
 use Rattle.workload_law.specs.Watch.{IsSized, piece_of, range_of, IsWatchPage, HasWritten, HaveCome, IsUnderway, IsWatch, summary_of}
@@ -41,11 +42,9 @@ use Rattle.watch_run.specs.Stages.{Entries, Owner, IsUnopened, IsWatched}
 use Rattle.watch_run.specs.Stops.{IsPageSeen, Stops}
 use Rattle.watch_run.specs.Noting.{IsPieceSeen}
 use Rattle.watch_run.specs.Ending.{IsSeenLast, HasWrittenAll, EndsBy, WatchEnds, TellsWatch, NotesSeen}
-use Rattle.watch_run.proofs.Compared.{same_content}
-use Rattle.watch_run.proofs.Noted.{all_noted_as}
-use Rattle.update_work.proofs.Updates.{same_fault}
-use Rattle.request_form.proofs.Own.{events_by-append}
-use Rattle.workload_law.proofs.WatchTogether.{or_not}
+use Rattle.watch_run.proofs.Refusals.{same_content}
+use Rattle.watch_run.proofs.Crews.{all_noted_as}
+use Rattle.workload_run.proofs.Updates.{same_fault}
 use Rattle.workload_law.proofs.CallEnds.{none_after}
 
 -- two summaries that tell the same
@@ -55,13 +54,7 @@ same_summary a b size versions agree = rw (size, versions, agree) refl
 -- a caller is none, or not given, or one that came back
 by_number : (made caller : ℕ) → (caller ≡ 0) ⊎ ((made < caller) ⊎ ((0 < caller) × (caller ≤ made)))
 by_number made zero = inl refl
-by_number zero (suc caller) = inr (inl (omega arith))
-by_number (suc made) (suc caller) = more (by_number made caller)
-  where
-    more : (caller ≡ 0) ⊎ ((made < caller) ⊎ ((0 < caller) × (caller ≤ made))) → (suc caller ≡ 0) ⊎ ((suc made < suc caller) ⊎ ((0 < suc caller) × (suc caller ≤ suc made)))
-    more (inl none) = inr (inr (omega arith, omega (arith, none)))
-    more (inr (inl past)) = inr (inl (omega (arith, past)))
-    more (inr (inr within)) = inr (inr (omega arith, omega (arith, within.1)))
+by_number made (suc caller) = elim (cases_lt made (suc caller)) [ inl past ↦ inr (inl past) | inr within ↦ inr (inr (omega arith, within)) ]
 
 begins_events : (xs ys : Entries) (b : Begins xs ys) → events ys ≡ events xs ++ events b.0
 begins_events xs ys b = ap (λ (l : Entries). events l) b.1 ∙ events_append xs b.0
@@ -104,11 +97,10 @@ bytes_told plan op bytes outcome (PieceOutcome.unpublished last le is) told =
 
 module _ (are : EntriesAreEvents) (plan : WatchPlan) (sized : IsSized plan) (f : DeskFixed) (limits : f.limits ≡ greatest) (owner : Owner) (tags : owner.seen ≡ tagged (events owner.seen)) (legal : IsLegal greatest (events owner.seen))
     (kept : (c : ℕ) → 0 < c → c ≤ owner.made → Contains owner.kept c) (lacks : LacksUngiven owner.made owner.seen) where
-  history : List Event
+  abbrev history : List Event
   history = events owner.seen
 
   ungiven : (c : ℕ) → (c ≡ 0) ⊎ (owner.made < c) → events_by c history ≡ []
-  unfolding history
   ungiven c not = none_by are owner.seen c tags (lacks c not)
 
   -- ---- nothing was made
@@ -116,7 +108,6 @@ module _ (are : EntriesAreEvents) (plan : WatchPlan) (sized : IsSized plan) (f :
   no_page_lost fault out = outside_as NoPage (IsWatchPage plan f.page_size) (λ page none. absurd none) fault out
 
   unopened_outside : (fault : Fault) → IsUnopened fault owner → IsOutside (IsWatchPage plan f.page_size) fault
-  unfolding history
   unopened_outside fault u = by_cause u.hindered
     where
       none : (c : ℕ) → events_by c history ≡ []
@@ -133,15 +124,14 @@ module _ (are : EntriesAreEvents) (plan : WatchPlan) (sized : IsSized plan) (f :
       by_cause : CreateHindered greatest 1 [] (events u.seen) fault → IsOutside (IsWatchPage plan f.page_size) fault
       by_cause (CreateHindered.outside out) = no_page_lost fault out
       by_cause (CreateHindered.refused r) =
-          let seen_none : events u.seen ≡ [] = no_front (events u.seen) (events u.begins.0) (sym (begins_events u.seen owner.seen u.begins) ∙ empty) in
-          let others : r.others ≡ [] = no_front r.others r.rest (sym r.split ∙ seen_none) in
+          let seen_none : events u.seen ≡ [] = (both_empty (events u.seen) (events u.begins.0) (sym (begins_events u.seen owner.seen u.begins) ∙ empty)).0 in
+          let others : r.others ≡ [] = (both_empty r.others r.rest (sym r.split ∙ seen_none)).0 in
           let refused : (answer (empty_store greatest) 1 Calls.Create).1 ≡ Outcomes.Refused r.refusal = subst (λ (l : List Event). (answer (store_of greatest ([] ++ l)) 1 Calls.Create).1 ≡ Outcomes.Refused r.refusal) others r.refused in
           absurd (true≢false (ap is_refused (sym refused)))
 
   -- ---- the writer's pass came back
   module _ (together : ComeTogether) (first : Entries) (w : IsWatched plan first owner) where
     none_by_others : (c : ℕ) → c ≢ 1 → c ≢ 2 → events_by c history ≡ []
-    unfolding history
     none_by_others c not_one not_two = by_place (by_number owner.made c)
       where
         third : (c : ℕ) → 0 < c → c ≢ 1 → c ≢ 2 → 3 ≤ c
@@ -156,7 +146,6 @@ module _ (are : EntriesAreEvents) (plan : WatchPlan) (sized : IsSized plan) (f :
         by_place (inr (inr within)) = w.idle c (third c within.0 not_one not_two) (kept c within.0 within.1)
 
     come : HaveCome (events first) history
-    unfolding history
     come = record {
       more = events w.begins.0;
       begins = begins_events first owner.seen w.begins;
@@ -173,12 +162,10 @@ module _ (are : EntriesAreEvents) (plan : WatchPlan) (sized : IsSized plan) (f :
     history_is = (together (events first) history come).1
 
     under : IsUnderway plan history
-    unfolding history
     under = record { written = events_by 2 history; is = history_is; begun = w.begun }
 
     writer_outside : NothingElseHinders → (op : ℕ) (seen : Entries) (later : List Event) (fault : Fault) → Begins seen owner.seen
         → UpdateHindered greatest f.page_size 2 1 Append (piece_of plan op) (events first ++ later) (events seen) fault → IsOutside (IsWatchPage plan f.page_size) fault
-    unfolding history
     writer_outside nothing op seen later fault begins hindered =
         nothing plan history sized legal under w.own f.page_size op (events seen) (events begins.0) later fault (begins_events seen owner.seen begins)
         (subst (λ (l : List Event). UpdateHindered greatest f.page_size 2 1 Append (piece_of plan op) (l ++ later) (events seen) fault) first_is hindered)
@@ -186,11 +173,9 @@ module _ (are : EntriesAreEvents) (plan : WatchPlan) (sized : IsSized plan) (f :
     -- ---- a reader stopped, or the last session
     module _ (log : Entries) (begins : Begins log owner.seen) where
       whole : history ≡ events log ++ events begins.0
-      unfolding history
       whole = begins_events log owner.seen begins
 
       front_legal : IsLegal greatest (events log)
-      unfolding history
       front_legal = legal_front (empty_store greatest) (events log) (events begins.0) (subst (λ (h : List Event). IsLegal greatest h) whole legal)
 
       front_under : 1 ≤ length (events log) → IsUnderway plan (events log)
@@ -221,11 +206,9 @@ module _ (are : EntriesAreEvents) (plan : WatchPlan) (sized : IsSized plan) (f :
         (s.told ∙ ap (λ (l : Bounds). reply_of (read_outcome (store_of l (events s.log)) (range_of op))) limits)
 
     version_within : VersionsAreSized → (version : ℕ) → IsPublishedIn (store_of f.limits (events owner.seen)) 1 version → version ≤ plan.ops
-    unfolding history
     version_within sizes version (b, at, out) = (sizes plan history legal under b (ap (λ (l : Bounds). blob_at (store_of l history) 1) (sym limits) ∙ at) version out).few
 
     not_missing : BlobsAreThere → (seen : Entries) → Begins first seen → Begins seen owner.seen → blob_at (store_of greatest (events seen)) 1 ≡ None → ⊥
-    unfolding history
     not_missing there seen from begins none =
         let is : events seen ≡ Events.Create 1 ∷ events from.0 = begins_events first seen from ∙ ap (λ (l : List Event). l ++ events from.0) first_is in
         let whole : history ≡ events seen ++ events begins.0 = begins_events seen owner.seen begins in
@@ -236,34 +219,36 @@ module _ (are : EntriesAreEvents) (plan : WatchPlan) (sized : IsSized plan) (f :
     -- ---- the writer came to its end
     module _ (dones : WatchesAreDone) (old new : Entries) (all : HasWrittenAll plan old owner) (begins : Begins new owner.seen) (version size : ℕ) (last : IsSeenLast f old new version size) where
       whole_is : history ≡ events old ++ events all.begins.0
-      unfolding history
       whole_is = begins_events old owner.seen all.begins
 
+      rest_by : (c : ℕ) → events_by c (events old) ≡ events_by c history → events_by c (events old ++ events all.begins.0) ≡ events_by c (events old)
+      rest_by c same = ap (λ (h : List Event). events_by c h) (sym whole_is) ∙ sym same
+
       rest_none : (c : ℕ) → events_by c (events old ++ events all.begins.0) ≡ events_by c (events old)
-      unfolding history
       rest_none c =
-          or_not c 1 (events_by c (events old ++ events all.begins.0) ≡ events_by c (events old))
-          (λ one. subst (λ (n : ℕ). events_by n (events old ++ events all.begins.0) ≡ events_by n (events old)) (sym one) (ap (λ (h : List Event). events_by 1 h) (sym whole_is) ∙ sym all.created))
-          (λ not_one.
-          or_not c 2 (events_by c (events old ++ events all.begins.0) ≡ events_by c (events old))
-          (λ two. subst (λ (n : ℕ). events_by n (events old ++ events all.begins.0) ≡ events_by n (events old)) (sym two) (ap (λ (h : List Event). events_by 2 h) (sym whole_is) ∙ sym all.same))
-          (λ not_two.
-          let none : events_by c (events old ++ events all.begins.0) ≡ [] = ap (λ (h : List Event). events_by c h) (sym whole_is) ∙ none_by_others c not_one not_two in
-          none ∙ sym (no_front (events_by c (events old)) (events_by c (events all.begins.0)) (sym (events_by-append c (events old) (events all.begins.0)) ∙ none))) (c == 2) refl) (c == 1) refl
+          elim (cases_eq c 1) [
+            | inl one ↦ rest_by c (subst (λ (n : ℕ). events_by n (events old) ≡ events_by n history) (sym one) all.created)
+            | inr not_one ↦
+                elim (cases_eq c 2) [
+                  | inl two ↦ rest_by c (subst (λ (n : ℕ). events_by n (events old) ≡ events_by n history) (sym two) all.same)
+                  | inr not_two ↦
+                      let none : events_by c (events old ++ events all.begins.0) ≡ [] = ap (λ (h : List Event). events_by c h) (sym whole_is) ∙ none_by_others c not_one not_two in
+                      none ∙ sym (none_parts c (events old) (events all.begins.0) none).0
+                ]
+          ]
 
       old_is : history ≡ events old
       old_is = whole_is ∙ (ap (λ (l : List Event). events old ++ l) (nobodys_are_none (events old) (events all.begins.0) rest_none) ∙ append-nil (events old))
 
       -- whatever lies between is the whole
       between : (xs : Entries) → Begins old xs → Begins xs owner.seen → events xs ≡ history
-      unfolding history
       between xs from to =
           let one = begins_events old xs from in
           let two = begins_events xs owner.seen to in
           let both : events old ++ (events from.0 ++ events to.0) ≡ events old =
           sym (append_assoc (events old) (events from.0) (events to.0)) ∙ (ap (λ (l : List Event). l ++ events to.0) (sym one) ∙ (sym two ∙ old_is))
           in
-          let none : events from.0 ≡ [] = no_front (events from.0) (events to.0) (none_after (events old) (events from.0 ++ events to.0) both) in
+          let none : events from.0 ≡ [] = (both_empty (events from.0) (events to.0) (none_after (events old) (events from.0 ++ events to.0) both)).0 in
           one ∙ (ap (λ (l : List Event). events old ++ l) none ∙ (append-nil (events old) ∙ sym old_is))
 
       mid_is : events last.mid ≡ history
@@ -273,11 +258,9 @@ module _ (are : EntriesAreEvents) (plan : WatchPlan) (sized : IsSized plan) (f :
       new_is = between new (begins_both old last.mid new last.begins last.goes_on) begins
 
       watch : IsWatch plan history
-      unfolding history
       watch = record { written = events_by 2 history; is = history_is; all = all.written }
 
       done_at : (log : Entries) → events log ≡ history → (b : Blob) × ((blob_at (store_of f.limits (events log)) 1 ≡ Some b) × IsDone plan b)
-      unfolding history
       done_at log is =
           let d = dones plan history legal watch in
           (d.0, (ap (λ (l : Bounds). blob_at (store_of l (events log)) 1) limits ∙ (ap (λ (h : List Event). blob_at (store_of greatest h) 1) is ∙ d.1.0), d.1.1))
@@ -306,7 +289,6 @@ module _ (are : EntriesAreEvents) (plan : WatchPlan) (sized : IsSized plan) (f :
     fault_outside fault (EndsBy.too_long first old new w all begins version size last long) = absurd (not_long together first w dones old new all begins version size last long)
 
     pub closed_is : (done : WatchSummary × NotesState) → WatchEnds plan f (Ok done) owner → IsWatch plan (events owner.seen)
-    unfolding history
     closed_is done (first, (old, (new, (w, (all, (begins, (last, agree))))))) =
         watch together first w dones old new all begins done.0.versions done.0.size last
 

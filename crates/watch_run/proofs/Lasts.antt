@@ -1,9 +1,9 @@
--- What the last session of a watch reads.
+-- What the last session of a watch reads, and what comes then.
 use Rattle.std.proofs.Common.{◌≡◌, inl, inr, ℕ, ◌*◌, ◌<◌, ◌≤◌, List, [], ◌∷◌, ◌++◌, length, take, refl, sym, ap, subst, ◌∙◌, arith}
 use Rattle.std.specs.Prelude.{Some, Result, Ok, Err}
 use Rattle.std.proofs.lemmas.List.{get_or_push, length-append, take_all}
 use Rattle.blob_model.specs.Content.{Update, content, size_of}
-use Rattle.blob_model.specs.Store.{Blob, blob_at}
+use Rattle.blob_model.specs.Store.{Blob, blob_at, published}
 use Rattle.blob_model.specs.History.{store_of}
 use Rattle.blob_model.specs.Laws.{OldVersionsStay}
 use Rattle.blob_model.specs.declared.call.Call.TheVariants as Calls
@@ -33,18 +33,20 @@ use Rattle.read_board.specs.Laws.{RefreshesStay}
 use Rattle.read_board.proofs.Recent.{size_not_refused}
 use Rattle.workload_law.specs.Sessions.{GapsHaveNoOwn}
 use Rattle.workload_law.specs.Ends.{IsOutside}
-use Rattle.workload_law.proofs.Lost.{outside_as}
-use Rattle.update_work.proofs.Returns.{events_append}
+use Rattle.workload_law.proofs.Later.{outside_as}
+use Rattle.workload_run.proofs.Returns.{events_append}
 use Rattle.watch_run.specs.Idling.{Idles}
 use Rattle.watch_run.specs.Keeping.{MayRefresh, RefreshHindered}
 use Rattle.watch_run.specs.Lasts.{updates_seen, WholeRead, IsLast, LastHindered}
-use Rattle.watch_run.specs.Stops.{IsPageSeen}
-use Rattle.watch_run.proofs.Idling.{idles_gap}
-use Rattle.watch_run.proofs.Kept.{on_pushed}
-use Rattle.watch_run.proofs.Stops.{itself}
-
-abbrev Entries : Type 0
-Entries = List (ℕ × Event)
+use Rattle.watch_run.specs.Stops.{IsPageSeen, Stops}
+use Rattle.turn_lock.specs.History.{Begins}
+use Rattle.watch_run.specs.declared.last.Last.{Last}
+use Rattle.watch_run.specs.Agreeing.{IsVersionIn, IsToldBy, IsSeenIn}
+use Rattle.watch_run.specs.Ending.{IsSeenLast, HasReadBack, HasFinished, FinishHindered}
+use Rattle.watch_run.specs.Stages.{Entries, Owner, LeavesWatch}
+use Rattle.watch_run.proofs.Idling.{idles_gap, on_pushed}
+use Rattle.watch_run.proofs.Refusals.{itself, outside_on, stops_on}
+use Rattle.watch_run.proofs.Stages.{leaves_both}
 
 -- ---- one read
 module _ (p : ℕ) (us : List Update) (n size : ℕ) (is_size : size ≡ size_of us n) where
@@ -108,6 +110,13 @@ module _ {D : Type 0} (s mid s' : SessionState D) (version : ℕ) where
       inl (IsOutside.starved (open_starved s.store.fixed mid.log s.caller version fault (published_on stay s.store.fixed s.log mid.log o.gap version o.log published) o.refused))
 
 -- ---- the last refresh
+-- where a refresh of the blob holds, its version is published
+pub holds_published : (f : DeskFixed) (log : Entries) (r : Refresh) → r.blob ≡ 1 → Holds f log r → IsPublishedIn (store_of f.limits (events log)) 1 (version_of r)
+holds_published f log r one h =
+    let at : (b : Blob) × (blob_at (store_of f.limits (events log)) 1 ≡ Some b) = subst (λ (n : ℕ). (b : Blob) × (blob_at (store_of f.limits (events log)) n ≡ Some b)) one h.there in
+    let le : version_of r ≤ published_in (desk_at f log) 1 = subst (λ (n : ℕ). version_of r ≤ published_in (desk_at f log) n) one h.published in
+    (at.0, at.1, subst (λ (n : ℕ). version_of r ≤ n) (ap published_or_none at.1) le)
+
 last_holds : (f : DeskFixed) (log : Entries) (rs : List Refresh) (r : Refresh) → AllHold f log (rs ++ r ∷ []) → Holds f log r
 last_holds f log rs r all = subst (λ (x : Refresh). Holds f log x) (get_or_push rs r r (length rs) refl) (all (length rs) r (omega (arith, length-append rs (r ∷ []))))
 
@@ -117,14 +126,7 @@ module _ {D : Type 0} (k k' : KeeperState) (s mid s' : SessionState D) (version 
 
   -- the version that the refresh answered is published where the refresh holds
   published_by : (f : DeskFixed) (log : Entries) → Holds f log done.refresh → IsPublishedIn (store_of f.limits (events log)) 1 version
-  published_by f log h =
-      let at : (b : Blob) × (blob_at (store_of f.limits (events log)) 1 ≡ Some b) =
-      subst (λ (n : ℕ). (b : Blob) × (blob_at (store_of f.limits (events log)) n ≡ Some b)) done.blob_is h.there
-      in
-      let le : version ≤ published_in (desk_at f log) 1 =
-      subst (λ (v : ℕ). v ≤ published_in (desk_at f log) 1) done.version_is (subst (λ (n : ℕ). version_of done.refresh ≤ published_in (desk_at f log) n) done.blob_is h.published)
-      in
-      (at.0, at.1, subst (λ (n : ℕ). version ≤ n) (ap published_or_none at.1) le)
+  published_by f log h = subst (λ (v : ℕ). IsPublishedIn (store_of f.limits (events log)) 1 v) done.version_is (holds_published f log done.refresh done.blob_is h)
 
   pub published_mid : IsPublishedIn (store_of mid.store.fixed.limits (events mid.log)) 1 version
   published_mid =
@@ -172,3 +174,87 @@ last_missing s s' fault (RefreshHindered.missing is none) = LastHindered.missing
 pub no_page : {D : Type 0} (s' : SessionState D) (fault : Fault) → RefreshHindered s' fault → page_faults fault ≡ 0
 no_page s' fault (RefreshHindered.starved is) = ap page_faults is
 no_page s' fault (RefreshHindered.missing is none) = ap page_faults is
+
+module _ {D : Type 0} (k : KeeperState) (s s' : SessionState D) (last : Last) (is : IsLast k s s' last.version last.bytes) where
+  version_in : IsVersionIn s'.store.fixed s'.log last
+  version_in = record { bytes_are = is.bytes_are; few = is.few }
+
+  pub told_by : IsToldBy k.shown last
+  told_by = record {
+    fixed = s'.store.fixed;
+    log = s'.log;
+    refresh = is.refresh;
+    latest = ap (λ (l : List Refresh). on_board 1 l) is.shown ∙ is.latest;
+    version_is = is.version_is;
+    holds = is.holds;
+    is_version = version_in;
+  }
+
+  module _ (store : StoreState) (of_store : s'.store ≡ store) where
+    published_now : IsPublishedIn (store_of store.fixed.limits (events s'.log)) 1 last.version
+    published_now =
+        subst (λ (f : DeskFixed). IsPublishedIn (store_of f.limits (events s'.log)) 1 last.version) (ap (λ (x : StoreState). x.fixed) of_store)
+        (subst (λ (v : ℕ). IsPublishedIn (store_of s'.store.fixed.limits (events s'.log)) 1 v) is.version_is (holds_published s'.store.fixed s'.log is.refresh is.of_one is.holds))
+
+    pub seen_in : (seen : Entries) → Begins s'.log seen → IsSeenIn store.fixed seen last
+    seen_in seen begins = record {
+      before = s'.log;
+      begins = begins;
+      published = published_now;
+      is_version = subst (λ (f : DeskFixed). IsVersionIn f s'.log last) (ap (λ (x : StoreState). x.fixed) of_store) version_in;
+    }
+
+  pub seen_last : (store : StoreState) (old : Entries) → s.store ≡ store → s'.store ≡ store → s.log ≡ old → IsSeenLast store.fixed old s'.log last.version (length last.bytes)
+  seen_last store old before after log = record {
+    mid = is.recent.mid;
+    begins = subst (λ (l : Entries). Begins l is.recent.mid) log is.recent.begins;
+    goes_on = is.recent.goes_on;
+    is = is.recent.is ∙ ap (λ (x : StoreState). published_in (desk_at x.fixed is.recent.mid) 1) before;
+    size_is = ap (λ (l : List ℕ). length l) is.bytes_are ∙ ap (λ (x : StoreState). size_of (updates_in (desk_at x.fixed s'.log) 1) last.version) after;
+  }
+
+-- ---- what goes on from there
+-- why nothing came of it
+pub finish_hindered : {D : Type 0} (s s' : SessionState D) (fault : Fault) (store : StoreState) (old new : Owner) → LastHindered s s' fault → s.store ≡ store → s'.store ≡ store → s.log ≡ old.seen → Begins s.log s'.log
+    → LeavesWatch old new → Begins s'.log new.seen → FinishHindered store.fixed old new fault
+finish_hindered s s' fault store old new (LastHindered.outside out) before after log goes leaves begins =
+    FinishHindered.stops leaves (Stops.outside (outside_on store.fixed s'.log new.seen fault begins (subst (λ (x : StoreState). IsOutside (IsPageSeen x.fixed s'.log) fault) after out)))
+finish_hindered s s' fault store old new (LastHindered.missing none) before after log goes leaves begins = FinishHindered.missing leaves s'.log (subst (λ (l : Entries). Begins l s'.log) log goes) begins none
+finish_hindered s s' fault store old new (LastHindered.too_long version recent long) before after log goes leaves begins =
+    FinishHindered.too_long leaves s'.log begins version (size_of (updates_seen s') version) (record {
+      mid = recent.mid;
+      begins = subst (λ (l : Entries). Begins l recent.mid) log recent.begins;
+      goes_on = recent.goes_on;
+      is = recent.is ∙ ap (λ (x : StoreState). published_in (desk_at x.fixed recent.mid) 1) before;
+      size_is = ap (λ (x : StoreState). size_of (updates_in (desk_at x.fixed s'.log) 1) version) after;
+    }) long
+
+-- ---- what comes later
+pub finish_later : {f : DeskFixed} {old mid new : Owner} {fault : Fault} → FinishHindered f old mid fault → LeavesWatch mid new → FinishHindered f old new fault
+finish_later {f = f} {mid = mid} {new = new} {fault = fault} (FinishHindered.stops leaves by) more = FinishHindered.stops (leaves_both leaves more) (stops_on f mid.seen new.seen fault more.comes.begins by)
+finish_later {mid = mid} {new = new} (FinishHindered.missing leaves seen from to none) more =
+    FinishHindered.missing (leaves_both leaves more) seen from (begins_both seen mid.seen new.seen to more.comes.begins) none
+finish_later {mid = mid} {new = new} (FinishHindered.too_long leaves seen to version size last long) more =
+    FinishHindered.too_long (leaves_both leaves more) seen (begins_both seen mid.seen new.seen to more.comes.begins) version size last long
+
+pub finished : {f : DeskFixed} {shown : List Refresh} {readers : ℕ} {old mid new : Owner} {last : Last} → HasReadBack f shown old mid last → LeavesWatch mid new → (size agree : ℕ) → size ≡ length last.bytes → agree ≡ readers
+    → HasFinished f readers old new (record { size = size; versions = last.version; agree = agree })
+finished {f = f} {old = old} {mid = mid} {new = new} {last = last} back more size agree sized all = record {
+  leaves = leaves_both back.leaves more;
+  seen = back.seen;
+  begins = begins_both back.seen mid.seen new.seen back.begins more.comes.begins;
+  last = subst (λ (n : ℕ). IsSeenLast f old.seen back.seen last.version n) (sym sized) back.seen_last;
+  agree = all;
+}
+
+-- how the last session's read ended
+module _ {D : Type 0} (k : KeeperState) (s s' : SessionState D) (store : StoreState) (old new : Owner) (before : s.store ≡ store) (after : s'.store ≡ store) (log : s.log ≡ old.seen) (leaves : LeavesWatch old new) (begins : Begins s'.log new.seen) where
+  pub read_back : (last : Last) → IsLast k s s' last.version last.bytes → HasReadBack store.fixed k.shown old new last
+  read_back last is = record {
+    leaves = leaves;
+    told = told_by k s s' last is;
+    known = seen_in k s s' last is store after new.seen begins;
+    seen = s'.log;
+    begins = begins;
+    seen_last = seen_last k s s' last is store old.seen before after log;
+  }

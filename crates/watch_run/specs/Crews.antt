@@ -3,7 +3,7 @@ use Rattle.std.specs.Prelude.{◌≡◌, ◌⊎◌, ℕ, ◌-◌, ◌^◌, ◌<�
 use Rattle.turn_lock.specs.History.{Begins}
 use Rattle.client_session.specs.Sessions.{StoreState}
 use Rattle.read_board.specs.Fronts.{BoardId}
-use Rattle.update_work.specs.Updates.{told_faults}
+use Rattle.workload_run.specs.Updates.{told_faults}
 use Rattle.watch_run.specs.Readers.{WatcherState}
 use Rattle.watch_run.specs.Stages.{Entries, IsIdle}
 use Rattle.watch_run.specs.Stops.{Stops}

@@ -11,7 +11,7 @@ use Rattle.read_board.specs.declared.refresh.Refresh.{Refresh}
 use Rattle.read_board.specs.Keeping.{KeeperState}
 use Rattle.read_board.specs.Refreshing.{AllHold}
 use Rattle.watch_run.specs.Idling.{Idles}
-use Rattle.update_work.specs.Callers.{Told}
+use Rattle.workload_run.specs.Callers.{Told}
 use Rattle.workload_law.specs.declared.watch_plan.WatchPlan.{WatchPlan}
 
 -- The keeper may refresh by this session, and all its refreshes are of blob 1.

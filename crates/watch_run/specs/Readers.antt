@@ -10,7 +10,7 @@ use Rattle.read_board.specs.Keeping.{StandingState}
 use Rattle.read_board.specs.Reads.{goes_by}
 use Rattle.read_board.specs.Refreshes.{updates_of}
 use Rattle.workload_law.specs.Ends.{IsOutside}
-use Rattle.update_work.specs.Updates.{told_faults}
+use Rattle.workload_run.specs.Updates.{told_faults}
 use Rattle.workload_law.specs.declared.watch_plan.WatchPlan.{WatchPlan}
 use Rattle.workload_law.specs.WatchNotes.{HasNoted}
 use Rattle.watch_run.specs.Idling.{Idles}

@@ -10,8 +10,8 @@ use Rattle.request_form.specs.declared.form.Fault.{Fault}
 use Rattle.client_session.specs.Sessions.{SessionState, Continues, session_of}
 use Rattle.workload_law.specs.Sessions.{FinishesItsOwn}
 use Rattle.workload_law.specs.Ends.{UpdateHindered}
-use Rattle.update_work.specs.Updates.{IsReady, told_faults}
-use Rattle.update_work.specs.Callers.{Told}
+use Rattle.workload_run.specs.Updates.{IsReady, told_faults}
+use Rattle.workload_run.specs.Callers.{Told}
 use Rattle.workload_law.specs.declared.watch_plan.WatchPlan.{WatchPlan}
 use Rattle.workload_law.specs.Watch.{piece_of, HasWritten, HasBegun}
 

@@ -2,7 +2,7 @@
 ghost use Rattle.std.specs.Prelude.{◌≡◌, ◌<◌, true, IfOk, IfErr, sum_by};
 ghost use Rattle.faults.specs.Counts.{RoseBy};
 ghost use Rattle.workload_law.specs.Ends.{IsOutside};
-ghost use Rattle.update_work.specs.Updates.{told_faults};
+ghost use Rattle.workload_run.specs.Updates.{told_faults};
 ghost use Rattle.watch_run.specs.Agreeing.{IsPageOfLast, IsToldBy, IsSeenBy};
 ghost use Rattle.watch_run.specs.Idling.{Idles};
 ghost use Rattle.watch_run.specs.Readers.{HasRead};

@@ -1,10 +1,10 @@
 // The end of a watch: the readers are compared with the last session, one by one, and their sessions end.
 ghost use Rattle.std.specs.Prelude.{◌≡◌, ◌≤◌, ◌<◌, ◌+◌, ◌-◌, ◌^◌, true, IfOk, IfErr, IfSome, vec_len, All};
 ghost use Rattle.client_session.specs.Sessions.{IsOwnerOf};
-ghost use Rattle.update_work.specs.Updates.{told_faults};
+ghost use Rattle.workload_run.specs.Updates.{told_faults};
 ghost use Rattle.watch_run.specs.Stages.{IsIdle};
 ghost use Rattle.watch_run.specs.Doors.{SessionsEnd};
-ghost use Rattle.update_work.specs.Left.{left_faults};
+ghost use Rattle.workload_run.specs.Left.{left_faults};
 ghost use Rattle.watch_run.specs.Crews.{IsEndable, IsDoneWatching, CameToEnd, AllCameToEnd};
 ghost use Rattle.turn_lock.specs.History.{Begins};
 ghost use Rattle.watch_run.specs.Agreeing.{IsToldBy, IsSeenIn};

@@ -4,7 +4,7 @@ ghost use Rattle.faults.specs.Counts.{RoseBy};
 ghost use Rattle.blob_model.specs.History.{store_of};
 ghost use Rattle.version_manager.specs.Log.{events};
 ghost use Rattle.request_form.specs.PublishedReads.{IsPublishedIn};
-ghost use Rattle.update_work.specs.Updates.{told_faults};
+ghost use Rattle.workload_run.specs.Updates.{told_faults};
 ghost use Rattle.watch_run.specs.Idling.{Idles};
 ghost use Rattle.read_board.specs.Refreshing.{Refreshed};
 ghost use Rattle.watch_run.specs.Keeping.{MayRefresh};

@@ -4,7 +4,7 @@ ghost use Rattle.blob_model.specs.Limits.{greatest};
 ghost use Rattle.client_session.specs.Sessions.{IsOwnerOf};
 ghost use Rattle.turn_lock.specs.History.{Begins};
 ghost use Rattle.store_sessions.specs.Lent.{LentDoors};
-ghost use Rattle.update_work.specs.Updates.{told_faults};
+ghost use Rattle.workload_run.specs.Updates.{told_faults};
 ghost use Rattle.watch_run.specs.Stages.{OpensAs, IsIdle};
 ghost use Rattle.watch_run.specs.Doors.{MakesAsBefore, SessionsEnd};
 
@@ -15,8 +15,8 @@ use request_form::Fault;
 use std::alloc::Global;
 use std::sync::Wait;
 use store_sessions::{end_session, open_session};
-use update_work::make_blob;
 use workload_law::laws::loads_close;
+use workload_run::make_blob;
 
 /// Makes the watched blob in a new store by a session of its own, the store's first, whose pass is back before any other is made. So
 /// every later session has seen it.

@@ -3,7 +3,7 @@ ghost use Rattle.std.specs.Prelude.{◌≡◌, ◌≢◌, ◌<◌, ◌+◌, ◌^
 ghost use mathlib.Core.List.{IsPrefix};
 ghost use Rattle.request_form.specs.Replies.{page_faults};
 ghost use Rattle.request_form.specs.declared.form.Fault.TheVariants.{NotPublished};
-ghost use Rattle.update_work.specs.Updates.{told_faults};
+ghost use Rattle.workload_run.specs.Updates.{told_faults};
 ghost use Rattle.read_board.specs.Refreshes.{version_of};
 ghost use Rattle.workload_law.specs.WatchNotes.{noted};
 ghost use Rattle.watch_run.specs.Readers.{ReadHindered, HasRead};

@@ -1,6 +1,6 @@
 // The work of a watch's readers.
 ghost use Rattle.std.specs.Prelude.{IfOk, IfErr};
-ghost use Rattle.update_work.specs.Updates.{told_faults};
+ghost use Rattle.workload_run.specs.Updates.{told_faults};
 ghost use Rattle.workload_law.specs.WatchNotes.{HasNoted};
 ghost use Rattle.watch_run.specs.Noting.{PieceRead};
 ghost use Rattle.watch_run.specs.Readers.{ReadHindered, HasRead, HasWatched, HaveWatched};

@@ -4,7 +4,7 @@ ghost use Rattle.blob_model.specs.Limits.{greatest};
 ghost use Rattle.client_session.specs.Sessions.{IsOwnerOf};
 ghost use Rattle.workload_law.specs.Watch.{IsSized, IsWatchPage};
 ghost use Rattle.workload_law.specs.WatchNotes.{HasDone};
-ghost use Rattle.update_work.specs.Updates.{told_faults};
+ghost use Rattle.workload_run.specs.Updates.{told_faults};
 ghost use Rattle.read_board.specs.Refreshing.{AllHold, Refreshed};
 ghost use Rattle.store_sessions.specs.Made.{IsNewSession};
 ghost use Rattle.store_sessions.specs.Lent.{LentDoors};
@@ -12,7 +12,7 @@ ghost use Rattle.watch_run.specs.Doors.{EndDoors, MakesAsBefore, DoorsCameBack};
 ghost use Rattle.watch_run.specs.Stages.{IsCalled, LeavesWatch};
 ghost use Rattle.watch_run.specs.Crews.{IsReadyToWatch, IsDoneWatching};
 ghost use Rattle.watch_run.specs.Ending.{HasReadBack, FinishHindered, Finishes, NotesOf, WatchEnds, NotesSeen, CameTo};
-ghost use Rattle.update_work.specs.Ending.{EndsEarly};
+ghost use Rattle.workload_run.specs.Ending.{EndsEarly};
 
 use crate::beside::work_beside;
 use crate::crew::{Callers, Crew, crew_of};
@@ -33,12 +33,12 @@ use std::alloc::Global;
 use std::sync::Wait;
 use std::thread::Threads;
 use store_sessions::{end_session, open_session};
-pub use update_work::EarlyEnd as WatchFault;
-use update_work::early_end;
 use version_manager::Desk;
 use workload_law::laws::loads_close;
 use workload_law::watch_laws::{pieces_are_told, watches_are_done, watches_close};
 use workload_law::{WatchPlan, WatchSummary};
+pub use workload_run::EarlyEnd as WatchFault;
+use workload_run::early_end;
 
 // One more session refreshes the blob, reads the whole of it, and ends.
 fn read_back<R: Threads + Wait + Sync, W: Wait + Drop, M: DoorMaker, G: Gate>(

@@ -4,8 +4,8 @@ ghost use denote.Param.Send.{IsSync};
 ghost use Rattle.faults.specs.Counts.{RoseBy};
 ghost use Rattle.client_session.specs.Sessions.{session_of, Continues};
 ghost use Rattle.workload_law.specs.Watch.{IsSized};
-ghost use Rattle.update_work.specs.Updates.{told_faults};
-ghost use Rattle.update_work.specs.Callers.{IsFresh};
+ghost use Rattle.workload_run.specs.Updates.{told_faults};
+ghost use Rattle.workload_run.specs.Callers.{IsFresh};
 ghost use Rattle.watch_run.specs.Writing.{WriteEnds};
 
 use blob_model::Place;
@@ -15,9 +15,9 @@ use ports::gate::Gate;
 use request_form::Fault;
 use std::sync::Wait;
 use std::thread::Threads;
-use update_work::update;
 use workload_law::WatchPlan;
 use workload_law::laws::loads_close;
+use workload_run::update;
 
 /// The blob that is watched.
 pub(crate) const BLOB: u64 = 1;

@@ -4,7 +4,7 @@ use Rattle.std.specs.Prelude.{Some, slice_index_or}
 use Rattle.std.specs.List.{count_by, flat_map}
 use Rattle.std.proofs.lemmas.Bool.Decides.{nat_tests}
 use Rattle.std.proofs.lemmas.Bool.{ne_eqb}
-use Rattle.std.proofs.lemmas.List.{length-set, length-append, length_push}
+use Rattle.std.proofs.lemmas.List.{length-append}
 use Rattle.std.proofs.lemmas.List.Sums.{sum_by-cons, sum_by-append, sum_by-set}
 use Rattle.blob_model.specs.Content.{Update}
 use Rattle.blob_model.specs.Store.{Store, Blob, blob_at, and_update, finish, published, assigned, true_prefix, is_finished}
@@ -12,6 +12,7 @@ use Rattle.blob_model.specs.Answer.{answer}
 use Rattle.blob_model.specs.History.{store_from, caller_of, call_of, IsAccepted, IsLegalFrom}
 use Rattle.blob_model.specs.declared.call.Event.{Event}
 use Rattle.blob_model.specs.declared.call.Event.TheVariants as Events
+use Rattle.blob_model.proofs.Marks.{AllEven, even_at, event_even, even_is}
 use Rattle.workload_law.proofs.Blobs.{updated, updated_all, event_updates, finish_accepted}
 
 -- the update that an event makes in the blob of that id
@@ -51,22 +52,6 @@ updates_step id b (Events.Create caller) = sym (append-nil b.updates)
 updates_step id b (Events.Assign caller blob place bytes) = assign_updates (blob == id) b _
 updates_step id b (Events.Finish caller blob version) = finish_updates (blob == id) b version
 updates_step id b (Events.Branch caller blob version) = sym (append-nil b.updates)
-
-assign_counted : (same : Bool) (b : Blob) (u : Update) → length b.finished ≡ length b.updates
-    → length (if same then and_update b u else b).finished ≡ length (if same then and_update b u else b).updates
-assign_counted true b u e = length_push b.finished false ∙ (ap (λ (n : ℕ). n + 1) e ∙ sym (length_push b.updates u))
-assign_counted false b u e = e
-
-finish_counted : (same : Bool) (b : Blob) (version : ℕ) → length b.finished ≡ length b.updates
-    → length (if same then finish b version else b).finished ≡ length (if same then finish b version else b).updates
-finish_counted true b version e = length-set b.finished (version - 1) true ∙ e
-finish_counted false b version e = e
-
-counted_step : (id : ℕ) (b : Blob) (e : Event) → length b.finished ≡ length b.updates → length (updated id b e).finished ≡ length (updated id b e).updates
-counted_step id b (Events.Create caller) h = h
-counted_step id b (Events.Assign caller blob place bytes) h = assign_counted (blob == id) b _ h
-counted_step id b (Events.Finish caller blob version) h = finish_counted (blob == id) b version h
-counted_step id b (Events.Branch caller blob version) h = h
 
 assign_trues : (same : Bool) (b : Blob) (u : Update) → trues (if same then and_update b u else b).finished ≡ trues b.finished + 0
 assign_trues true b u = sum_by-append (λ (t : Bool). cond t 1 0) b.finished (false ∷ [])
@@ -112,16 +97,12 @@ all_updates id b (e ∷ es) =
     all_updates id (updated id b e) es
     ∙ (ap (λ (us : List Update). us ++ updates_in id es) (updates_step id b e) ∙ append_assoc b.updates (update_in id e) (updates_in id es))
 
-pub all_counted : (id : ℕ) (b : Blob) (es : List Event) → length b.finished ≡ length b.updates → length (updated_all id b es).finished ≡ length (updated_all id b es).updates
-all_counted id b [] h = h
-all_counted id b (e ∷ es) h = all_counted id (updated id b e) es (counted_step id b e h)
-
-pub all_trues : (s : Store) (id : ℕ) (b : Blob) (es : List Event) → length b.finished ≡ length b.updates → blob_at s id ≡ Some b → IsLegalFrom s es
+pub all_trues : (s : Store) (id : ℕ) (b : Blob) (es : List Event) → AllEven s.blobs → blob_at s id ≡ Some b → IsLegalFrom s es
     → trues (updated_all id b es).finished ≡ trues b.finished + length (finishers_in id es)
-all_trues s id b [] counted at legal = omega arith
-all_trues s id b (e ∷ es) counted at legal =
-    let more = all_trues (answer s (caller_of e) (call_of e)).0 id (updated id b e) es (counted_step id b e counted) (event_updates s e id b at legal.0.accepted) legal.1 in
-    let step = trues_step s id b e counted at legal.0 in
+all_trues s id b [] even at legal = omega arith
+all_trues s id b (e ∷ es) even at legal =
+    let more = all_trues (answer s (caller_of e) (call_of e)).0 id (updated id b e) es (event_even s e even) (event_updates s e id b at legal.0.accepted) legal.1 in
+    let step = trues_step s id b e (even_is b (even_at s id b even at)) at legal.0 in
     let both = length-append (finisher_in id e) (finishers_in id es) in
     omega (arith, more, step, both)
 

@@ -7,23 +7,16 @@ pub mod Appends
 pub mod Writes
 pub mod Merged
 pub mod Workers
-pub mod Opened
+pub mod Loads
 pub mod Grid
 pub mod Cells
 pub mod Records
-pub mod Summing
 pub mod Standing
-pub mod ReadBack
-pub mod GoingOn
 pub mod OneCaller
-pub mod Marks
 pub mod OwnEvents
 pub mod PrintedLines
-pub mod Lost
+pub mod Later
 pub mod CallEnds
 pub mod Closing
-pub mod WatchWritten
-pub mod WatchTogether
-pub mod WatchGoing
-pub mod WatchPieces
+pub mod Watching
 mod Rows

@@ -15,7 +15,7 @@ use Rattle.blob_model.specs.declared.call.Outcome.TheVariants as Outcomes
 use Rattle.blob_model.specs.declared.call.Place.{Place}
 use Rattle.blob_model.specs.declared.call.Refusal.{Refusal}
 use Rattle.blob_model.specs.declared.call.Refusal.TheVariants as Refusals
-use Rattle.workload_law.specs.Numbered.{IsNumberedBy}
+use Rattle.workload_law.specs.Numbered.{IsNumberedBy, VersionsHaveOneCaller, NumberedStays}
 use Rattle.workload_law.proofs.Blobs.{updated_all}
 use Rattle.workload_law.proofs.Counted.{updates_in, store_updated, all_updates}
 use Rattle.blob_model.proofs.Stays.{some_is, store_from-append}
@@ -77,31 +77,20 @@ pub is_placed : (s : Store) (caller blob : ℕ) (place : Place) (bytes : List �
 is_placed s caller blob place bytes version at size e =
     blob_placed s blob place (blob_at s blob) _ version at size refl e (λ b e. unless_placed s _ _ version at size (assigned b + 1) (offset_of place (size_now b)) _ refl e)
 
-pub record IsNext (s : Store) (blob version : ℕ) : Type 0 where
-  pub here : Blob
-  pub there : blob_at s blob ≡ Some here
-  pub next : version ≡ assigned here + 1
-
-pub is_next : (s : Store) (caller blob : ℕ) (place : Place) (bytes : List ℕ) (version at size : ℕ) → (answer s caller (Calls.Assign blob place bytes)).1 ≡ Outcomes.Assigned version at size
-    → IsNext s blob version
-is_next s caller blob place bytes version at size e =
-    let it : IsPlaced s blob place version at = is_placed s caller blob place bytes version at size e in
-    record { here = it.here; there = it.there; next = it.next }
-
 first_counts : (own : Bool) (u : Update) (us : List Update) → own ≡ true → 1 ≤ length ((let l : List Update = (if own then u ∷ [] else []) in l) ++ us)
 first_counts true u us e = omega arith
 first_counts false u us e = (let no : ⊥ = cc in absurd no)
 
 -- the version that a later numbering gets is greater
-later_greater : (limits : Bounds) (before between : List Event) (caller blob : ℕ) (place : Place) (bytes : List ℕ) (version next : ℕ)
-    → IsLegal limits (before ++ Events.Assign caller blob place bytes ∷ between) → IsNext (store_of limits before) blob version
-    → IsNext (store_of limits (before ++ Events.Assign caller blob place bytes ∷ between)) blob next → version < next
-later_greater limits before between caller blob place bytes version next legal first second =
+later_greater : (limits : Bounds) (before between : List Event) (caller blob : ℕ) (place place' : Place) (bytes : List ℕ) (version at next at' : ℕ)
+    → IsLegal limits (before ++ Events.Assign caller blob place bytes ∷ between) → IsPlaced (store_of limits before) blob place version at
+    → IsPlaced (store_of limits (before ++ Events.Assign caller blob place bytes ∷ between)) blob place' next at' → version < next
+later_greater limits before between caller blob place place' bytes version at next at' legal first second =
     let es : List Event = Events.Assign caller blob place bytes ∷ between in
-    let at : blob_at (store_of limits (before ++ es)) blob ≡ Some (updated_all blob first.here es) =
+    let now : blob_at (store_of limits (before ++ es)) blob ≡ Some (updated_all blob first.here es) =
     ap (λ (s : Store). blob_at s blob) (store_from-append (empty_store limits) before es)
     ∙ store_updated (store_of limits before) es blob first.here first.there (legal_later (empty_store limits) before es legal) in
-    let is : second.here ≡ updated_all blob first.here es = some_is (blob_at (store_of limits (before ++ es)) blob) second.here (updated_all blob first.here es) second.there at in
+    let is : second.here ≡ updated_all blob first.here es = some_is (blob_at (store_of limits (before ++ es)) blob) second.here (updated_all blob first.here es) second.there now in
     let long : assigned second.here ≡ length (first.here.updates ++ updates_in blob es) = ap (λ (b : Blob). assigned b) is ∙ ap length (all_updates blob first.here es) in
     let more : 1 ≤ length (updates_in blob es) = first_counts (blob == blob) (record { caller = caller; place = place; bytes = bytes }) (updates_in blob between) (eq-eqb blob blob refl) in
     omega (arith, long, more, first.next, second.next, length-append first.here.updates (updates_in blob es))
@@ -112,14 +101,13 @@ not_again : (limits : Bounds) (history : List Event) → IsLegal limits history 
     → (between : List Event) → b.before ≡ a.before ++ Events.Assign one blob a.place a.bytes ∷ between → ⊥
 not_again limits history legal blob version one other a b between e =
     let front : IsLegal limits b.before = legal_front (empty_store limits) b.before (Events.Assign other blob b.place b.bytes ∷ b.after) (subst (λ (h : List Event). IsLegal limits h) b.split legal) in
-    let first : IsNext (store_of limits a.before) blob version = is_next (store_of limits a.before) one blob a.place a.bytes version a.at a.size a.answered in
-    let second : IsNext (store_of limits b.before) blob version = is_next (store_of limits b.before) other blob b.place b.bytes version b.at b.size b.answered in
-    let less : version < version = later_greater limits a.before between one blob a.place a.bytes version version
-    (subst (λ (h : List Event). IsLegal limits h) e front) first (subst (λ (h : List Event). IsNext (store_of limits h) blob version) e second) in
+    let second = is_placed (store_of limits b.before) other blob b.place b.bytes version b.at b.size b.answered in
+    let less : version < version = later_greater limits a.before between one blob a.place b.place a.bytes version a.at version b.at
+    (subst (λ (h : List Event). IsLegal limits h) e front) (is_placed (store_of limits a.before) one blob a.place a.bytes version a.at a.size a.answered)
+    (subst (λ (h : List Event). IsPlaced (store_of limits h) blob b.place version b.at) e second) in
     omega arith
 
-pub one_caller : (limits : Bounds) (history : List Event) → IsLegal limits history → (blob version one other : ℕ)
-    → IsNumberedBy limits history one blob version → IsNumberedBy limits history other blob version → one ≡ other
+pub one_caller : VersionsHaveOneCaller
 one_caller limits history legal blob version one other a b =
     elim (two_places a.before b.before a.after b.after (Events.Assign one blob a.place a.bytes) (Events.Assign other blob b.place b.bytes) (sym a.split ∙ b.split)) [
       | same p q ↦ cc
@@ -127,7 +115,7 @@ one_caller limits history legal blob version one other a b =
       | later between e ↦ absurd (not_again limits history legal blob version other one b a between e)
     ]
 
-pub numbered_stays : (limits : Bounds) (history more : List Event) (caller blob version : ℕ) → IsNumberedBy limits history caller blob version → IsNumberedBy limits (history ++ more) caller blob version
+pub numbered_stays : NumberedStays
 numbered_stays limits history more caller blob version n = record {
   before = n.before;
   after = n.after ++ more;

@@ -1,10 +1,11 @@
 -- Workers that are made one after another, and that end from the last to the first.
-use Rattle.std.proofs.Common.{◌≡◌, ◌⊎◌, inl, inr, ℕ, zero, suc, ◌+◌, ◌-◌, ◌^◌, ◌<◌, ◌≤◌, min, List, [], ◌∷◌, ◌++◌, length, length-append, take, drop, refl, sym, ap, subst, ◌∙◌, append_assoc, append-nil, arith, Contains}
+use Rattle.std.proofs.Common.{◌≡◌, inl, inr, ℕ, ◌+◌, ◌-◌, ◌^◌, ◌<◌, ◌≤◌, min, List, [], ◌∷◌, ◌++◌, length, length-append, take, drop, refl, sym, ap, subst, ◌∙◌, append_assoc, append-nil, arith, Contains}
 use Rattle.std.specs.Prelude.{Option, Some, None, Ok, Err, slice_index_or, sum_by}
 use Rattle.std.proofs.Math.ListN.{get_or-append}
 use Rattle.std.proofs.lemmas.List.{get_or_push, drop_all, take_all}
 use Rattle.std.proofs.lemmas.List.Sums.{sum_by-append, sum_by-cons}
-use Rattle.std.proofs.lemmas.List.Elements.{Contains-append_left, Contains-push}
+use Rattle.std.proofs.lemmas.Bool.{cases_lt}
+use Rattle.std.proofs.lemmas.List.Elements.{All-nil, All-cons, All-weaker, Contains-append_left, Contains-push}
 use Rattle.blob_model.specs.declared.call.Event.{Event}
 use Rattle.turn_lock.specs.History.{entries_by, Begins}
 use Rattle.turn_lock.specs.Shown.{OwnerView}
@@ -12,7 +13,7 @@ use Rattle.turn_lock.proofs.Histories.{begins_both}
 use Rattle.version_manager.specs.declared.journal.DeskFixed.{DeskFixed}
 use Rattle.request_form.specs.declared.form.Fault.{Fault}
 use Rattle.client_session.specs.Sessions.{StoreState}
-use Rattle.update_work.specs.Callers.{Told}
+use Rattle.workload_run.specs.Callers.{Told}
 use Rattle.workload_run.specs.Workers.{WorkerState, IsBack, stop_or, IsReadyAt, AreReady, IsOfStore, AreOfStore, AreBack, AreKept, first_stop, counted_by}
 
 abbrev Entries : Type 0
@@ -42,44 +43,30 @@ no_items (x ∷ xs) none = absurd (omega (arith, none))
 module _ {D : Type 0} where
   -- ---- one more is made
 
-  at_front : (xs : List (WorkerState D)) (x d : WorkerState D) (place : ℕ) → place < length xs → slice_index_or (xs ++ x ∷ []) place d ≡ slice_index_or xs place d
-  at_front xs x d place within = get_or-append xs (x ∷ []) d place within
-
-  at_end : (xs : List (WorkerState D)) (x d : WorkerState D) (place : ℕ) → place ≡ length xs → slice_index_or (xs ++ x ∷ []) place d ≡ x
-  at_end xs x d place is = get_or_push xs x d place (sym is)
-
-  front_or_end : (xs : List (WorkerState D)) (x : WorkerState D) (place : ℕ) → place < length (xs ++ x ∷ []) → (place < length xs) ⊎ (length xs ≤ place) → (place < length xs) ⊎ (place ≡ length xs)
-  front_or_end xs x place within (inl less) = inl less
-  front_or_end xs x place within (inr more) = inr (omega (arith, length-append xs (x ∷ []), within, more))
-
   module _ (P : ℕ → WorkerState D → Type 0) (xs : List (WorkerState D)) (x : WorkerState D) where
     -- what holds of each place holds of each place of the front
     pub each_front : ((place : ℕ) (d : WorkerState D) → place < length (xs ++ x ∷ []) → P place (slice_index_or (xs ++ x ∷ []) place d)) → (place : ℕ) (d : WorkerState D) → place < length xs → P place (slice_index_or xs place d)
-    each_front each place d within = subst (λ (w : WorkerState D). P place w) (at_front xs x d place within) (each place d (omega (arith, within, length-append xs (x ∷ []))))
+    each_front each place d within =
+        subst (λ (w : WorkerState D). P place w) (get_or-append xs (x ∷ []) d place within) (each place d (omega (arith, within, length-append xs (x ∷ []))))
 
     pub each_last : ((place : ℕ) (d : WorkerState D) → place < length (xs ++ x ∷ []) → P place (slice_index_or (xs ++ x ∷ []) place d)) → P (length xs) x
-    each_last each = subst (λ (w : WorkerState D). P (length xs) w) (at_end xs x x (length xs) refl) (each (length xs) x (omega (arith, length-append xs (x ∷ []))))
+    each_last each = subst (λ (w : WorkerState D). P (length xs) w) (get_or_push xs x x (length xs) refl) (each (length xs) x (omega (arith, length-append xs (x ∷ []))))
 
-    push_at : ((place : ℕ) (d : WorkerState D) → place < length xs → P place (slice_index_or xs place d)) → P (length xs) x → (place : ℕ) (d : WorkerState D) → (place < length xs) ⊎ (place ≡ length xs)
+    each_push : ((place : ℕ) (d : WorkerState D) → place < length xs → P place (slice_index_or xs place d)) → P (length xs) x → (place : ℕ) (d : WorkerState D) → place < length (xs ++ x ∷ [])
         → P place (slice_index_or (xs ++ x ∷ []) place d)
-    push_at each last place d (inl less) = subst (λ (w : WorkerState D). P place w) (sym (at_front xs x d place less)) (each place d less)
-    push_at each last place d (inr is) = subst (λ (w : WorkerState D). P place w) (sym (at_end xs x d place is)) (subst (λ (n : ℕ). P n x) (sym is) last)
-
-    pub each_push : ((n m : ℕ) → (n < m) ⊎ (m ≤ n)) → ((place : ℕ) (d : WorkerState D) → place < length xs → P place (slice_index_or xs place d)) → P (length xs) x → (place : ℕ) (d : WorkerState D)
-        → place < length (xs ++ x ∷ []) → P place (slice_index_or (xs ++ x ∷ []) place d)
-    each_push tells each last place d within = push_at each last place d (front_or_end xs x place within (tells place (length xs)))
-
-    -- what holds of the first and of the others holds of each
-    pub each_cons : P 0 x → ((place : ℕ) (d : WorkerState D) → place < length xs → P (suc place) (slice_index_or xs place d)) → (place : ℕ) (d : WorkerState D) → place < length (x ∷ xs)
-        → P place (slice_index_or (x ∷ xs) place d)
-    each_cons first each zero d within = first
-    each_cons first each (suc place) d within = each place d (omega (arith, within))
+    each_push each last place d within =
+        elim (cases_lt place (length xs)) [
+          | inl less ↦ subst (λ (w : WorkerState D). P place w) (sym (get_or-append xs (x ∷ []) d place less)) (each place d less)
+          | inr more ↦
+              let is : place ≡ length xs = omega (arith, length-append xs (x ∷ []), within, more) in
+              subst (λ (w : WorkerState D). P place w) (sym (get_or_push xs x d place (sym is))) (subst (λ (n : ℕ). P n x) (sym is) last)
+        ]
 
   -- where all are ready and the next one is, all are with that one
-  pub ready_push : (faults : D → ℕ) (store : StoreState) (log : Entries) (xs ys : List (WorkerState D)) (x : WorkerState D) → ((n m : ℕ) → (n < m) ⊎ (m ≤ n)) → ys ≡ xs ++ x ∷ []
-      → AreReady faults store log xs → IsReadyAt faults store log (length xs) x → AreReady faults store log ys
-  ready_push faults store log xs ys x tells more each last =
-      subst (λ (l : List (WorkerState D)). AreReady faults store log l) (sym more) (each_push (λ place w. IsReadyAt faults store log place w) xs x tells each last)
+  pub ready_push : (faults : D → ℕ) (store : StoreState) (log : Entries) (xs ys : List (WorkerState D)) (x : WorkerState D) → ys ≡ xs ++ x ∷ [] → AreReady faults store log xs
+      → IsReadyAt faults store log (length xs) x → AreReady faults store log ys
+  ready_push faults store log xs ys x more each last =
+      subst (λ (l : List (WorkerState D)). AreReady faults store log l) (sym more) (each_push (λ place w. IsReadyAt faults store log place w) xs x each last)
 
   -- ---- one more ends
 
@@ -103,8 +90,8 @@ module _ {D : Type 0} where
     taken = [];
     split = sym (append-nil all);
     of_store = of_store;
-    back = λ place d within. absurd (omega (arith, within));
-    kept = λ place d within. absurd (omega (arith, within));
+    back = All-nil (λ (w : WorkerState D). IsBack (w.number + 1) w.session.log owner.seen);
+    kept = All-nil (λ (w : WorkerState D). Contains owner.kept (w.number + 1));
     kept_before = λ c k. k;
     stays = λ c k. refl;
     made = refl;
@@ -148,11 +135,11 @@ module _ {D : Type 0} where
       split = ending.split ∙ append_assoc left (worker ∷ []) ending.taken;
       of_store = each_front (λ place w. IsOfStore store place w) left worker ending.of_store;
       back =
-          each_cons (λ place w. IsBack (w.number + 1) w.session.log new.seen) ending.taken worker back_own
+          All-cons (λ (w : WorkerState D). IsBack (w.number + 1) w.session.log new.seen) worker ending.taken back_own
           (λ place d within.
           let w = slice_index_or ending.taken place d in
           back_on (w.number + 1) w.session.log mid.seen new.seen (ending.back place d within) begins.0 (others (w.number + 1) (ending.kept place d within)));
-      kept = each_cons (λ place w. Contains new.kept (w.number + 1)) ending.taken worker kept_own (λ place d within. kept_on ((slice_index_or ending.taken place d).number + 1) (ending.kept place d within));
+      kept = All-cons (λ (w : WorkerState D). Contains new.kept (w.number + 1)) worker ending.taken kept_own (All-weaker (λ (w : WorkerState D). Contains mid.kept (w.number + 1)) (λ (w : WorkerState D). Contains new.kept (w.number + 1)) (λ w k. kept_on (w.number + 1) k) ending.taken ending.kept);
       kept_before = λ c k. kept_on c (ending.kept_before c k);
       stays = λ c k. others c (ending.kept_before c k) ∙ ending.stays c k;
       made = ap (λ (o : OwnerView Event DeskFixed). o.made) counts.1 ∙ ending.made;

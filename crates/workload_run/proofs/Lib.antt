@@ -1,8 +1,7 @@
+pub mod Updates
+pub mod Returns
+pub mod Early
 pub mod Operations
-pub mod Openings
-pub mod Endings
-pub mod Lents
-pub mod Looks
-pub mod Summaries
 pub mod Stores
+pub mod Looks
 pub mod Crews

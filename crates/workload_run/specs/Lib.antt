@@ -1,3 +1,8 @@
+pub mod Updates
+pub mod Left
+pub mod Making
+pub mod Callers
+pub mod Ending
 pub mod Work
 pub mod Opening
 pub mod Stages

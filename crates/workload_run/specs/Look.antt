@@ -18,7 +18,7 @@ use Rattle.workload_law.specs.Laws.{IsReadBack}
 use Rattle.workload_law.specs.Pieces.{in_order_of}
 use Rattle.workload_law.specs.Ends.{IsOutside}
 use Rattle.workload_run.specs.declared.looking.Last.{Last}
-use Rattle.update_work.specs.Making.{HasDoneOwn}
+use Rattle.workload_run.specs.Making.{HasDoneOwn}
 use Rattle.workload_run.specs.Stages.{TellsSummary}
 
 -- the version and the size that a look at the most recent version gives; the one cause of another answer is that the blob isn't there

@@ -6,7 +6,7 @@ use Rattle.request_form.specs.declared.form.Fault.{Fault}
 use Rattle.workload_law.specs.declared.plan.LoadPlan.{LoadPlan}
 use Rattle.workload_law.specs.Load.{opened_with}
 use Rattle.workload_law.specs.Closing.{OpeningHindered}
-use Rattle.update_work.specs.Making.{HasDoneOwn}
+use Rattle.workload_run.specs.Making.{HasDoneOwn}
 
 -- the whole opening was done, and the zeros got some version
 pub record HasOpened (plan : LoadPlan) (s s' : Session) : Type 0 where

@@ -8,7 +8,7 @@ use Rattle.turn_lock.specs.Shown.{OwnerView}
 use Rattle.version_manager.specs.declared.journal.DeskFixed.{DeskFixed}
 use Rattle.version_manager.specs.Log.{tagged, events}
 use Rattle.request_form.specs.declared.form.Fault.{Fault}
-use Rattle.update_work.specs.Callers.{CameBack}
+use Rattle.workload_run.specs.Callers.{CameBack}
 use Rattle.workload_law.specs.declared.plan.LoadPlan.{LoadPlan}
 use Rattle.workload_law.specs.declared.plan.Summary.{Summary}
 use Rattle.workload_law.specs.Load.{opened_with, HasDone, HasBegun, IsLoad, IsLoadPage}

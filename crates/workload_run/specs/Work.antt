@@ -12,7 +12,7 @@ use Rattle.workload_law.specs.Load.{operation, IsSized, HasDone, HasBegun}
 use Rattle.workload_law.specs.Sessions.{FinishesItsOwn}
 use Rattle.workload_law.specs.Ends.{Leaves}
 use Rattle.workload_law.specs.Closing.{OperationHindered}
-use Rattle.update_work.specs.Updates.{IsReady, StoppedWithin}
+use Rattle.workload_run.specs.Updates.{IsReady, StoppedWithin}
 
 -- a worker of the plan, and an operation of it
 pub record IsOperation (plan : LoadPlan) (worker op : ℕ) : Type 0 where

@@ -1,5 +1,5 @@
 -- The workers of a load, each with its session.
-use Rattle.std.specs.Prelude.{◌≡◌, ℕ, ◌+◌, ◌<◌, ◌≤◌, List, [], ◌∷◌, Ok, Err, Option, Some, None, sum_by, slice_index_or, length, Contains}
+use Rattle.std.specs.Prelude.{◌≡◌, ℕ, ◌+◌, ◌<◌, ◌≤◌, List, [], ◌∷◌, Ok, Err, Option, Some, None, sum_by, slice_index_or, length, Contains, All}
 use Rattle.blob_model.specs.declared.call.Event.{Event}
 use Rattle.faults.specs.Counts.{RoseBy}
 use Rattle.turn_lock.specs.History.{Begins, entries_by}
@@ -8,9 +8,9 @@ use Rattle.request_form.specs.declared.form.Fault.{Fault}
 use Rattle.client_session.specs.Sessions.{StoreState, SessionState, Continues, session_of}
 use Rattle.workload_law.specs.declared.plan.LoadPlan.{LoadPlan}
 use Rattle.workload_law.specs.Load.{IsSized}
-use Rattle.update_work.specs.Updates.{told_faults}
+use Rattle.workload_run.specs.Updates.{told_faults}
 use Rattle.workload_run.specs.Work.{WorkEnds}
-use Rattle.update_work.specs.Callers.{Told, IsFresh}
+use Rattle.workload_run.specs.Callers.{Told, IsFresh}
 
 -- a worker: its session, its number, and how it ended
 pub record WorkerState (D : Type 0) : Type 0 where
@@ -77,11 +77,11 @@ module _ {D : Type 0} where
 
   -- the passes of these workers came back
   abbrev pub AreBack : List (WorkerState D) → List (ℕ × Event) → Type 0
-  AreBack workers seen = (place : ℕ) (d : WorkerState D) → place < length workers → IsBack ((slice_index_or workers place d).number + 1) (slice_index_or workers place d).session.log seen
+  AreBack workers seen = All (λ (worker : WorkerState D). IsBack (worker.number + 1) worker.session.log seen) workers
 
   -- their callers are among these
   abbrev pub AreKept : List (WorkerState D) → List ℕ → Type 0
-  AreKept workers kept = (place : ℕ) (d : WorkerState D) → place < length workers → Contains kept ((slice_index_or workers place d).number + 1)
+  AreKept workers kept = All (λ (worker : WorkerState D). Contains kept (worker.number + 1)) workers
 
   -- the fault of the first of them that didn't come to its end, if there is one
   abbrev pub first_stop : List (WorkerState D) → Option Fault

@@ -8,7 +8,7 @@ ghost use Rattle.client_session.specs.Sessions.{IsOwnerOf};
 ghost use Rattle.store_sessions.specs.Lent.{LentDoors};
 ghost use Rattle.version_manager.specs.Log.{events};
 ghost use Rattle.workload_law.specs.Load.{IsSized};
-ghost use Rattle.update_work.specs.Updates.{told_faults};
+ghost use Rattle.workload_run.specs.Updates.{told_faults};
 ghost use Rattle.workload_run.specs.Stages.{IsOpened, WorksAs};
 ghost use Rattle.workload_run.specs.Workers.{IsWorkable, AreWorkable, AreReady, HasRun, HaveRun, AreOfStore, AreBack, AreKept, first_stop, counted_by};
 

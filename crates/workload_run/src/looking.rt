@@ -8,7 +8,7 @@ ghost use Rattle.client_session.specs.Results.{read_reply};
 ghost use Rattle.client_session.specs.Sessions.{IsOwnerOf, session_of};
 ghost use Rattle.store_sessions.specs.Lent.{LentDoors};
 ghost use Rattle.workload_law.specs.Load.{IsSized};
-ghost use Rattle.update_work.specs.Updates.{told_faults};
+ghost use Rattle.workload_run.specs.Updates.{told_faults};
 ghost use Rattle.workload_run.specs.Stages.{LooksAs};
 ghost use Rattle.workload_run.specs.Look.{recent_told, is_read_reply, LookEnds, SummaryEnds, summed_up};
 

@@ -4,11 +4,13 @@ ghost use denote.Param.Send.{IsSync};
 ghost use Rattle.faults.specs.Counts.{RoseBy};
 ghost use Rattle.client_session.specs.Sessions.{session_of, Continues};
 ghost use Rattle.workload_law.specs.Load.{IsSized, zeros_of};
-ghost use Rattle.update_work.specs.Updates.{told_faults};
-ghost use Rattle.update_work.specs.Callers.{IsFresh};
-ghost use Rattle.update_work.specs.Making.{MakingEnds};
+ghost use Rattle.workload_run.specs.Updates.{told_faults};
+ghost use Rattle.workload_run.specs.Callers.{IsFresh};
+ghost use Rattle.workload_run.specs.Making.{MakingEnds};
 ghost use Rattle.workload_run.specs.Opening.{OpeningEnds};
 
+use crate::making::make_blob;
+use crate::updating::update;
 use crate::working::GRID;
 use blob_model::Place;
 use client_session::Session;
@@ -17,7 +19,6 @@ use ports::gate::Gate;
 use request_form::Fault;
 use std::sync::Wait;
 use std::thread::Threads;
-use update_work::{make_blob, update};
 use workload_law::LoadPlan;
 use workload_law::laws::calls_leave;
 

@@ -5,7 +5,7 @@ ghost use Rattle.blob_model.specs.Limits.{greatest};
 ghost use Rattle.client_session.specs.Sessions.{IsOwnerOf};
 ghost use Rattle.store_sessions.specs.Lent.{LentDoors};
 ghost use Rattle.workload_law.specs.Load.{IsSized};
-ghost use Rattle.update_work.specs.Updates.{told_faults};
+ghost use Rattle.workload_run.specs.Updates.{told_faults};
 ghost use Rattle.workload_run.specs.Stages.{OpensAs};
 
 use crate::opening::open_blobs;

@@ -5,10 +5,11 @@ ghost use Rattle.blob_model.specs.Limits.{greatest};
 ghost use Rattle.faults.specs.Counts.{RoseBy};
 ghost use Rattle.client_session.specs.Sessions.{session_of, Continues};
 ghost use Rattle.workload_law.specs.Load.{IsSized};
-ghost use Rattle.update_work.specs.Updates.{IsReady, told_faults};
+ghost use Rattle.workload_run.specs.Updates.{IsReady, told_faults};
 ghost use Rattle.workload_run.specs.Work.{IsOperation, Operated, WorkEnds};
-ghost use Rattle.update_work.specs.Callers.{IsFresh};
+ghost use Rattle.workload_run.specs.Callers.{IsFresh};
 
+use crate::updating::update;
 use blob_model::Place;
 use client_session::Session;
 use page_fan::BesideDoor;
@@ -16,7 +17,6 @@ use ports::gate::Gate;
 use request_form::Fault;
 use std::sync::Wait;
 use std::thread::Threads;
-use update_work::update;
 use workload_law::laws::{calls_leave, loads_close, loads_go_on};
 use workload_law::{LoadPlan, cell, record};
 

@@ -10,7 +10,7 @@ use Rattle.workload_law.specs.Ends.{IsOutside}
 use Rattle.watch_run.specs.Agreeing.{IsPageOfLast}
 use Rattle.watch_run.specs.Idling.{Idles}
 use Rattle.watch_run.proofs.Idling.{idles_goes}
-use Rattle.watch_run.proofs.Compared.{prefix_both, place_reads, place_stop}
+use Rattle.watch_run.proofs.Refusals.{prefix_both, place_reads, place_stop}
 use Rattle.watch_run.proofs.agreeing.compare_by_place.Goals as goal
 
 pub returns-in-Ok-clause-agrees : goal.returns-in-Ok-clause-agrees

@@ -2,7 +2,7 @@ use Rattle.std.proofs.Common.{◌∙◌, sym, Ok, Err}
 use Rattle.std.proofs.lemmas.Slice.Eq.{bytes_eq-Decides}
 use Rattle.request_form.specs.Answers.{read_fault}
 use Rattle.client_session.specs.Results.{read_reply}
-use Rattle.watch_run.proofs.Compared.{by_turn}
+use Rattle.watch_run.proofs.Refusals.{by_turn}
 use Rattle.watch_run.proofs.Idling.{idles_read}
 use Rattle.watch_run.proofs.agreeing.compare_by_turn.Goals as goal
 

@@ -1,12 +1,29 @@
-use Rattle.std.proofs.Common.{ap, subst, arith}
+use Rattle.std.proofs.Common.{◌-◌, ◌^◌, ◌<◌, ◌≤◌, ap, subst, arith}
 use Rattle.std.specs.Prelude.{sum_by}
 use Rattle.store_sessions.specs.Made.{IsNewSession}
 use Rattle.store_sessions.proofs.Traffics.{came_back_around}
+use Rattle.watch_run.specs.Doors.{MakesAsBefore}
 use Rattle.watch_run.specs.Stages.{Owner}
-use Rattle.watch_run.proofs.Ends.{kept_both, kept_back}
-use Rattle.watch_run.proofs.Doors.{crew_handed, crew_back}
-use Rattle.watch_run.proofs.Sessions.{makes_so, makes_both}
+use Rattle.watch_run.proofs.Crews.{kept_both, kept_back}
+use Rattle.watch_run.proofs.Stages.{crew_handed, crew_back, makes_so, makes_both}
+use Rattle.watch_run.proofs.crew.crew_of.Given.{Over}
+use Rattle.watch_run.proofs.crew.crew_of.Goals.{After-open_session-2}
 use Rattle.watch_run.proofs.crew.crew_of.Goals as goal
+
+-- the maker, once two sessions were made or tried
+two_made : (g : Over) (c : After-open_session-2 g) → MakesAsBefore g.M.DoorMaker.is_true g.M.DoorMaker.makes c.args.maker.now c.open_session-2.new.maker
+two_made g c =
+    let m = g.M.DoorMaker in
+    let p = c.open_session.ensures in
+    let q = c.open_session-2.ensures in
+    let one = c.open_session.new.maker in
+    makes_both (makes_so m.is_true m.makes c.args.maker.now one p.truth_stays p.plan_stays) (makes_so m.is_true m.makes one c.open_session-2.new.maker q.truth_stays q.plan_stays)
+
+-- what their doors counted then
+two_counted : (g : Over) (c : After-open_session-2 g) → let counts = g.M.DoorMaker.faults in counts c.open_session-2.new.maker < 2 ^ 64 - 1 → counts c.args.maker.now ≤ counts c.open_session-2.new.maker
+two_counted g c =
+    let counts = g.M.DoorMaker.faults in
+    kept_both (counts c.args.maker.now) (counts c.open_session.new.maker) (counts c.open_session-2.new.maker) c.open_session.ensures.doors c.open_session-2.ensures.doors
 
 pub returns-in-Ok-watchers_of-clause-handed_out : goal.returns-in-Ok-watchers_of-clause-handed_out
 returns-in-Ok-watchers_of-clause-handed_out g c =
@@ -54,32 +71,29 @@ pub returns-in_default-open_session-clause-doors : goal.returns-in_default-open_
 returns-in_default-open_session-clause-doors g c =
     let counts = g.M.DoorMaker.faults in
     let first = counts c.args.maker.now in
-    let one = counts c.open_session.new.maker in
     let two = counts c.open_session-2.new.maker in
     let last = counts c.end_session.new.maker in
-    kept_both first two last (kept_both first one two c.open_session.ensures.doors c.open_session-2.ensures.doors)
+    kept_both first two last (two_counted g (goal.at.returns-in_default-open_session-clause-doors g c).After-open_session-2)
     (kept_back two (sum_by g.M.Door.Door.faults c.in-Ok.writer.doors) last c.end_session.ensures.doors)
 
 pub returns-in-Ok-watchers_of-clause-doors : goal.returns-in-Ok-watchers_of-clause-doors
 returns-in-Ok-watchers_of-clause-doors g c =
     let counts = g.M.DoorMaker.faults in
     let first = counts c.args.maker.now in
-    let one = counts c.open_session.new.maker in
     let two = counts c.open_session-2.new.maker in
-    kept_both first two (counts c.watchers_of.new.maker) (kept_both first one two c.open_session.ensures.doors c.open_session-2.ensures.doors) c.watchers_of.ensures.doors
+    kept_both first two (counts c.watchers_of.new.maker) (two_counted g (goal.at.returns-in-Ok-watchers_of-clause-doors g c).After-open_session-2) c.watchers_of.ensures.doors
 
 pub returns-in-Err-clause-doors : goal.returns-in-Err-clause-doors
 returns-in-Err-clause-doors g c =
     let counts = g.M.DoorMaker.faults in
     let faults = g.M.Door.Door.faults in
     let first = counts c.args.maker.now in
-    let one = counts c.open_session.new.maker in
     let two = counts c.open_session-2.new.maker in
     let next = counts c.watchers_of.new.maker in
     let ended = counts c.end_session-in-Err.new.maker in
     let last = counts c.end_session-in-Err-2.new.maker in
     kept_both first ended last
-    (kept_both first next ended (kept_both first two next (kept_both first one two c.open_session.ensures.doors c.open_session-2.ensures.doors) c.watchers_of.ensures.doors)
+    (kept_both first next ended (kept_both first two next (two_counted g (goal.at.returns-in-Err-clause-doors g c).After-open_session-2) c.watchers_of.ensures.doors)
     (kept_back next (sum_by faults c.in-Ok-open_session.keeping.doors) ended c.end_session-in-Err.ensures.doors))
     (kept_back ended (sum_by faults c.in-Ok.writer.doors) last c.end_session-in-Err-2.ensures.doors)
 
@@ -89,40 +103,18 @@ returns-in_default-clause-maker g c = let i = c.open_session.ensures in record {
 pub returns-in_default-open_session-clause-maker : goal.returns-in_default-open_session-clause-maker
 returns-in_default-open_session-clause-maker g c =
     let m = g.M.DoorMaker in
-    let p = c.open_session.ensures in
-    let q = c.open_session-2.ensures in
-    let first = c.args.maker.now in
-    let one = c.open_session.new.maker in
-    let two = c.open_session-2.new.maker in
-    let made = makes_both m.is_true m.makes first one two (makes_so m.is_true m.makes first one p.truth_stays p.plan_stays) (makes_so m.is_true m.makes one two q.truth_stays q.plan_stays) in
     let r = c.end_session.ensures in
-    let last = c.end_session.new.maker in
-    makes_both m.is_true m.makes first two last made (makes_so m.is_true m.makes two last r.truth_stays r.plan_stays)
+    makes_both (two_made g (goal.at.returns-in_default-open_session-clause-maker g c).After-open_session-2)
+    (makes_so m.is_true m.makes c.open_session-2.new.maker c.end_session.new.maker r.truth_stays r.plan_stays)
 
 pub returns-in-Ok-watchers_of-clause-maker : goal.returns-in-Ok-watchers_of-clause-maker
-returns-in-Ok-watchers_of-clause-maker g c =
-    let m = g.M.DoorMaker in
-    let p = c.open_session.ensures in
-    let q = c.open_session-2.ensures in
-    let first = c.args.maker.now in
-    let one = c.open_session.new.maker in
-    let two = c.open_session-2.new.maker in
-    let made = makes_both m.is_true m.makes first one two (makes_so m.is_true m.makes first one p.truth_stays p.plan_stays) (makes_so m.is_true m.makes one two q.truth_stays q.plan_stays) in
-    makes_both m.is_true m.makes first two c.watchers_of.new.maker made c.watchers_of.ensures.maker
+returns-in-Ok-watchers_of-clause-maker g c = makes_both (two_made g (goal.at.returns-in-Ok-watchers_of-clause-maker g c).After-open_session-2) c.watchers_of.ensures.maker
 
 pub returns-in-Err-clause-maker : goal.returns-in-Err-clause-maker
 returns-in-Err-clause-maker g c =
     let m = g.M.DoorMaker in
-    let p = c.open_session.ensures in
-    let q = c.open_session-2.ensures in
-    let first = c.args.maker.now in
-    let one = c.open_session.new.maker in
-    let two = c.open_session-2.new.maker in
-    let made = makes_both m.is_true m.makes first one two (makes_so m.is_true m.makes first one p.truth_stays p.plan_stays) (makes_so m.is_true m.makes one two q.truth_stays q.plan_stays) in
     let r = c.end_session-in-Err.ensures in
     let s = c.end_session-in-Err-2.ensures in
-    let three = c.watchers_of.new.maker in
     let four = c.end_session-in-Err.new.maker in
-    let last = c.end_session-in-Err-2.new.maker in
-    let ended = makes_both m.is_true m.makes three four last (makes_so m.is_true m.makes three four r.truth_stays r.plan_stays) (makes_so m.is_true m.makes four last s.truth_stays s.plan_stays) in
-    makes_both m.is_true m.makes first three last (makes_both m.is_true m.makes first two three made c.watchers_of.ensures.maker) ended
+    makes_both (makes_both (two_made g (goal.at.returns-in-Err-clause-maker g c).After-open_session-2) c.watchers_of.ensures.maker)
+    (makes_both (makes_so m.is_true m.makes c.watchers_of.new.maker four r.truth_stays r.plan_stays) (makes_so m.is_true m.makes four c.end_session-in-Err-2.new.maker s.truth_stays s.plan_stays))

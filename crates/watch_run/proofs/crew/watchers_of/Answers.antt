@@ -7,10 +7,8 @@ use Rattle.read_board.specs.Keeping.{StandState}
 use Rattle.store_sessions.proofs.Traffics.{none_handed, handed_more, came_back_around}
 use Rattle.watch_run.specs.Stages.{Entries, Owner, IsIdle}
 use Rattle.watch_run.specs.Crews.{IsEndable, IsReadyToWatch}
-use Rattle.watch_run.proofs.Crews.{all_ready_end}
-use Rattle.watch_run.proofs.Ends.{all_more, kept_both}
-use Rattle.watch_run.proofs.Sessions.{makes_still, makes_so, makes_both}
-use Rattle.watch_run.proofs.Stages.{new_idle}
+use Rattle.watch_run.proofs.Crews.{all_ready_end, all_more, kept_both}
+use Rattle.watch_run.proofs.Stages.{makes_still, makes_so, makes_both, new_idle}
 use Rattle.watch_run.proofs.crew.watchers_of.Goals as goal
 
 pub makes-preserved : goal.makes-preserved
@@ -23,7 +21,7 @@ makes-preserved g c =
     let r = c.reader.ensures in
     let before = ap (λ (o : Owner). o.made) i.given in
     let session : c.reader.result.session ≡ c.in-Ok-open_session.session = r.session in
-    let idle = new_idle faults c.entries_are_events.ensures c.args.shared.now c.makes.owner c.in-Ok-open_session.session i.owner.log.tags (omega (arith, before, c.requires.three)) x.session in
+    let idle = new_idle x.session c.entries_are_events.ensures i.owner.log.tags (omega (arith, before, c.requires.three)) in
     record {
       few = omega (arith, c.push_reserved.ensures.len, c.makes-test.true);
       room = search rules;
@@ -44,7 +42,7 @@ makes-preserved g c =
       handed = subst (λ (n : ℕ). Traffic m.hands_out m.takes_back (n * p) 0 c.args.maker.now c.open_session.new.maker) (sym c.push_reserved.ensures.len)
           (handed_more m.hands_out m.takes_back p (vec_len c.makes.watchers) c.args.maker.now c.makes.maker c.open_session.new.maker i.handed x.handed_out);
       doors = kept_both (m.faults c.args.maker.now) (m.faults c.makes.maker) (m.faults c.open_session.new.maker) i.doors x.doors;
-      same = makes_both m.is_true m.makes c.args.maker.now c.makes.maker c.open_session.new.maker i.same (record { truth_stays = x.truth_stays; plan_stays = x.plan_stays });
+      same = makes_both i.same (record { truth_stays = x.truth_stays; plan_stays = x.plan_stays });
     }
 
 pub makes-init : goal.makes-init
@@ -59,7 +57,7 @@ makes-init g c = record {
   handed = subst (λ (n : ℕ). Traffic g.M.DoorMaker.hands_out g.M.DoorMaker.takes_back (n * c.args.shared.now.providers) 0 c.args.maker.now c.args.maker.now) (sym c.in-Ok.ensures.len)
       (none_handed g.M.DoorMaker.hands_out g.M.DoorMaker.takes_back c.args.shared.now.providers c.args.maker.now);
   doors = λ less. omega arith;
-  same = makes_still g.M.DoorMaker.is_true g.M.DoorMaker.makes c.args.maker.now;
+  same = makes_still;
 }
 
 pub returns-clause-ready : goal.returns-clause-ready
@@ -85,7 +83,7 @@ returns-in-Err-clause-all_back g c =
     c.makes.invariant.handed c.in-Err.ensures.all_back c.end_watchers-none.ensures.sessions.traffic
 
 pub returns-in_default-clause-maker : goal.returns-in_default-clause-maker
-returns-in_default-clause-maker g c = makes_still g.M.DoorMaker.is_true g.M.DoorMaker.makes c.args.maker.now
+returns-in_default-clause-maker g c = makes_still
 
 pub returns-clause-maker : goal.returns-clause-maker
 returns-clause-maker g c = c.makes.invariant.same
@@ -98,9 +96,8 @@ returns-in-Err-clause-none_out g c =
 pub returns-in-Err-clause-maker : goal.returns-in-Err-clause-maker
 returns-in-Err-clause-maker g c =
     let m = g.M.DoorMaker in
-    let first = c.args.maker.now in
     let last = c.makes.maker in
     let tried = c.open_session.new.maker in
     let x = c.open_session.ensures in
-    let made = makes_both m.is_true m.makes first last tried c.makes.invariant.same (makes_so m.is_true m.makes last tried x.truth_stays x.plan_stays) in
-    makes_both m.is_true m.makes first tried c.end_watchers-none.new.maker made c.end_watchers-none.ensures.sessions.maker
+    let made = makes_both c.makes.invariant.same (makes_so m.is_true m.makes last tried x.truth_stays x.plan_stays) in
+    makes_both made c.end_watchers-none.ensures.sessions.maker

@@ -4,18 +4,15 @@ use mir.Val.{bool_byte}
 use Rattle.request_form.specs.declared.form.Fault.{Fault}
 use Rattle.watch_run.specs.Readers.{WatcherState}
 use Rattle.watch_run.specs.Stops.{Stops}
-use Rattle.update_work.specs.Left.{left_faults}
+use Rattle.workload_run.specs.Left.{left_faults}
 use Rattle.watch_run.specs.Crews.{IsDoneWatching}
-use Rattle.watch_run.proofs.Crews.{done_on}
-use Rattle.watch_run.proofs.Noted.{ReadSoFar, none_so_far, more_so_far, all_so_far}
-use Rattle.watch_run.proofs.Ends.{AgreeSoFar, all_front, all_last, agree_more, stop_on}
-use Rattle.watch_run.proofs.Sessions.{all_left, one_less, none_left}
+use Rattle.watch_run.proofs.Crews.{done_on, ReadSoFar, none_so_far, more_so_far, all_so_far, AgreeSoFar, all_front, all_last, agree_more, stop_on}
+use Rattle.watch_run.proofs.Stages.{all_left, one_less, none_left}
 use Rattle.watch_run.proofs.ending.agree_all.Goals as goal
 
 pub loop-watcher-preserved-in-Ok : goal.loop-watcher-preserved-in-Ok
 loop-watcher-preserved-in-Ok g c =
     let e = c.in-Ok.ensures in
-    let m = g.M.DoorMaker in
     let i = c.loop-watcher.invariant in
     let done = IsDoneWatching g.M.Door.Door.faults c.args.shared.now c.args.owner.now.seen c.args.standard.now.keeper.board in
     let all = subst (λ (l : List (WatcherState _)). All done l) c.in-Some.ensures.items i.done in
@@ -24,8 +21,7 @@ loop-watcher-preserved-in-Ok g c =
     record {
       owner = e.owner;
       agree = agree_more c.loop-watcher.stop c.loop-watcher.agree c.from-agree.result (vec_len c.loop-watcher.watchers) (vec_len c.pop.new.self) (vec_len c.args.watchers) i.agree one len;
-      sessions = one_less m.is_true m.makes m.hands_out m.takes_back c.args.shared.now (vec_len c.args.watchers) (vec_len c.loop-watcher.watchers) (vec_len c.pop.new.self) c.args.owner.now c.loop-watcher.owner
-          c.agree_with.new.owner c.args.maker.now c.loop-watcher.maker c.agree_with.new.maker len i.sessions c.agree_with.ensures.sessions;
+      sessions = one_less len i.sessions c.agree_with.ensures.sessions;
       made = (omega (arith, i.made.0, e.made.0), omega (arith, i.made.1, e.made.1, len));
       few = omega (arith, i.few, one, len);
       stop = stop_on c.args.shared.now.fixed c.loop-watcher.owner.seen c.agree_with.new.owner.seen c.loop-watcher.stop e.sessions.leaves.comes.begins i.stop;
@@ -39,7 +35,6 @@ loop-watcher-preserved-in-Ok g c =
 pub loop-watcher-preserved : goal.loop-watcher-preserved
 loop-watcher-preserved g c =
     let e = c.in-Err.ensures in
-    let m = g.M.DoorMaker in
     let i = c.loop-watcher.invariant in
     let done = IsDoneWatching g.M.Door.Door.faults c.args.shared.now c.args.owner.now.seen c.args.standard.now.keeper.board in
     let all = subst (λ (l : List (WatcherState _)). All done l) c.in-Some.ensures.items i.done in
@@ -47,8 +42,7 @@ loop-watcher-preserved g c =
     record {
       owner = e.owner;
       agree = tt;
-      sessions = one_less m.is_true m.makes m.hands_out m.takes_back c.args.shared.now (vec_len c.args.watchers) (vec_len c.loop-watcher.watchers) (vec_len c.pop.new.self) c.args.owner.now c.loop-watcher.owner
-          c.agree_with.new.owner c.args.maker.now c.loop-watcher.maker c.agree_with.new.maker len i.sessions c.agree_with.ensures.sessions;
+      sessions = one_less len i.sessions c.agree_with.ensures.sessions;
       made = (omega (arith, i.made.0, e.made.0), omega (arith, i.made.1, e.made.1, len));
       few = omega (arith, i.few, len);
       stop = e.stop;
@@ -71,7 +65,7 @@ pub loop-watcher-init : goal.loop-watcher-init
 loop-watcher-init g c = record {
   owner = c.requires.owner;
   agree = omega arith;
-  sessions = (let m = g.M.DoorMaker in all_left m.is_true m.makes m.hands_out m.takes_back c.args.shared.now (vec_len c.args.watchers) c.args.owner.now c.args.maker.now);
+  sessions = all_left (vec_len c.args.watchers) c.args.owner.now c.args.maker.now;
   made = c.requires.passes_left;
   few = omega arith;
   done = c.requires.done;
@@ -114,12 +108,10 @@ returns-in-None-clause-ended g c =
 
 pub returns-in-Some-stop-clause-sessions : goal.returns-in-Some-stop-clause-sessions
 returns-in-Some-stop-clause-sessions g c =
-    let m = g.M.DoorMaker in
     let l = c.loop-watcher in
-    none_left m.is_true m.makes m.hands_out m.takes_back c.args.shared.now (vec_len c.args.watchers) (vec_len l.watchers) c.args.owner.now l.owner c.args.maker.now l.maker c.in_default.ensures.cases.0 l.invariant.sessions
+    none_left c.in_default.ensures.cases.0 l.invariant.sessions
 
 pub returns-in-None-clause-sessions : goal.returns-in-None-clause-sessions
 returns-in-None-clause-sessions g c =
-    let m = g.M.DoorMaker in
     let l = c.loop-watcher in
-    none_left m.is_true m.makes m.hands_out m.takes_back c.args.shared.now (vec_len c.args.watchers) (vec_len l.watchers) c.args.owner.now l.owner c.args.maker.now l.maker c.in_default.ensures.cases.0 l.invariant.sessions
+    none_left c.in_default.ensures.cases.0 l.invariant.sessions

@@ -3,11 +3,10 @@ use Rattle.std.specs.Prelude.{All, IfSome}
 use Rattle.client_session.specs.Sessions.{IsOwnerOf}
 use Rattle.watch_run.specs.Agreeing.{IsSeenIn}
 use Rattle.watch_run.specs.Stops.{Stops}
-use Rattle.update_work.specs.Left.{left_faults}
+use Rattle.workload_run.specs.Left.{left_faults}
 use Rattle.watch_run.specs.Crews.{IsDoneWatching}
-use Rattle.watch_run.proofs.Ends.{AgreeSoFar}
-use Rattle.watch_run.proofs.Noted.{ReadSoFar}
-use Rattle.watch_run.proofs.Sessions.{HaveEnded}
+use Rattle.watch_run.proofs.Crews.{AgreeSoFar, ReadSoFar}
+use Rattle.watch_run.proofs.Stages.{HaveEnded}
 use Rattle.watch_run.proofs.ending.agree_all.Given as goal
 
 abbrev pub invariant-loop-watcher : goal.invariant-loop-watcher

@@ -4,27 +4,30 @@ use Rattle.turn_lock.specs.History.{Begins}
 use Rattle.turn_lock.proofs.Histories.{begins_both}
 use Rattle.client_session.specs.Sessions.{StoreState, SessionState}
 use Rattle.workload_law.specs.Ends.{IsOutside}
-use Rattle.update_work.specs.Updates.{told_faults}
+use Rattle.workload_run.specs.Updates.{told_faults}
 use Rattle.watch_run.specs.Agreeing.{IsPageOfLast}
 use Rattle.watch_run.specs.Readers.{HasRead}
 use Rattle.watch_run.specs.Stages.{IsIdle}
-use Rattle.watch_run.proofs.Crews.{idle_on, told_lost}
-use Rattle.watch_run.proofs.Ends.{rose_told}
-use Rattle.watch_run.proofs.ReadOn.{read_none}
-use Rattle.watch_run.proofs.Stops.{stops_of_last}
-use Rattle.watch_run.proofs.ending.agree_by_place.Goals.{in-Ok, in-Err}
+use Rattle.watch_run.proofs.Crews.{idle_on, told_lost, rose_told}
+use Rattle.watch_run.proofs.Idling.{read_none}
+use Rattle.watch_run.proofs.Refusals.{stops_of_last}
+use Rattle.watch_run.proofs.ending.agree_by_place.Given.{Over}
+use Rattle.watch_run.proofs.ending.agree_by_place.Goals.{After-into_session, in-Ok, in-Err}
 use Rattle.watch_run.proofs.ending.agree_by_place.Goals as goal
 
-pub end_idle-requires-clause-idle : goal.end_idle-requires-clause-idle
-end_idle-requires-clause-idle g c =
+-- what the reader read, if it read anything
+has_read : (g : Over) (c : After-into_session g) → HasRead g.M.Door.Door.faults (told_faults c.match-note.told) c.args.reader c.match-note.reader
+has_read g c =
     let faults = g.M.Door.Door.faults in
-    let read : HasRead faults (told_faults c.match-note.told) c.args.reader c.match-note.reader =
     elim c.match-note.branch [
       | in-Ok w ↦ rw (w.reader-is, w.told-is) w.compare_by_place-told.ensures.read
       | in-Err w ↦ rw (w.reader-is, w.told-is) (read_none faults c.args.reader)
     ]
-    in
-    subst (λ (s : SessionState _). IsIdle c.args.shared.now s) (sym c.into_session.ensures) (idle_on c.args.shared.now c.args.reader.session c.match-note.reader.session c.requires.idle read.idles)
+
+pub end_idle-requires-clause-idle : goal.end_idle-requires-clause-idle
+end_idle-requires-clause-idle g c =
+    let read = has_read g (goal.at.end_idle-requires-clause-idle g c).After-into_session in
+    subst (λ (s : SessionState _). IsIdle c.args.shared.now s) (sym c.into_session.ensures) (idle_on c.requires.idle read.idles)
 
 pub returns-clause-stop : goal.returns-clause-stop
 returns-clause-stop g c =
@@ -45,24 +48,13 @@ returns-clause-doors g c =
     let faults = g.M.Door.Door.faults in
     let old = counts c.args.maker.now in
     let new = counts c.end_idle.new.maker in
-    let read : HasRead faults (told_faults c.match-note.told) c.args.reader c.match-note.reader =
-    elim c.match-note.branch [
-      | in-Ok w ↦ rw (w.reader-is, w.told-is) w.compare_by_place-told.ensures.read
-      | in-Err w ↦ rw (w.reader-is, w.told-is) (read_none faults c.args.reader)
-    ]
-    in
+    let read = has_read g (goal.at.returns-clause-doors g c).After-into_session in
     let back = subst (λ (s : SessionState _). min (old + sum_by faults s.doors) (2 ^ 64 - 1) ≤ new) c.into_session.ensures c.end_idle.ensures.doors in
     rose_told (told_faults c.match-note.told) old old (sum_by faults c.args.reader.session.doors) (sum_by faults c.match-note.reader.session.doors) new (λ _. omega arith) read.rose back
 
 pub returns-clause-begins : goal.returns-clause-begins
 returns-clause-begins g c =
-    let faults = g.M.Door.Door.faults in
-    let read : HasRead faults (told_faults c.match-note.told) c.args.reader c.match-note.reader =
-    elim c.match-note.branch [
-      | in-Ok w ↦ rw (w.reader-is, w.told-is) w.compare_by_place-told.ensures.read
-      | in-Err w ↦ rw (w.reader-is, w.told-is) (read_none faults c.args.reader)
-    ]
-    in
+    let read = has_read g (goal.at.returns-clause-begins g c).After-into_session in
     begins_both c.args.reader.session.log c.match-note.reader.session.log c.end_idle.new.owner.seen read.idles.goes_on.begins
     (subst (λ (s : SessionState _). Begins s.log c.end_idle.new.owner.seen) c.into_session.ensures c.end_idle.ensures.begins)
 

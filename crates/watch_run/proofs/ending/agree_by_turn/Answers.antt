@@ -2,24 +2,21 @@ use Rattle.std.proofs.Common.{◌*◌, refl, ap, subst, arith}
 use Rattle.std.specs.Prelude.{sum_by}
 use Rattle.page_store.specs.Calls.{Traffic}
 use Rattle.turn_lock.proofs.Histories.{begins_both}
-use Rattle.update_work.specs.Updates.{told_faults}
+use Rattle.workload_run.specs.Updates.{told_faults}
 use Rattle.client_session.specs.Sessions.{StoreState}
 use Rattle.workload_law.specs.Ends.{IsOutside}
 use Rattle.watch_run.specs.Agreeing.{IsPageOfLast}
 use Rattle.watch_run.specs.Stages.{Owner}
 use Rattle.watch_run.specs.Stops.{Stops}
-use Rattle.watch_run.proofs.Crews.{idle_on, told_lost}
-use Rattle.watch_run.proofs.Ends.{kept_back, rose_told, seen_on, seen_by}
-use Rattle.watch_run.proofs.Sessions.{one_ended, makes_both}
-use Rattle.watch_run.proofs.Stages.{renewed_idle, leaves_renewed, leaves_unrenewed, leaves_both}
-use Rattle.watch_run.proofs.Stops.{stops_of_last}
+use Rattle.watch_run.proofs.Crews.{idle_on, told_lost, kept_back, rose_told, seen_on, seen_by}
+use Rattle.watch_run.proofs.Stages.{makes_so, one_ended, makes_both, renewed_idle, leaves_renewed, leaves_unrenewed, leaves_both}
+use Rattle.watch_run.proofs.Refusals.{stops_of_last}
 use Rattle.watch_run.proofs.ending.agree_by_turn.Goals as goal
 
 pub end_idle-requires-clause-idle : goal.end_idle-requires-clause-idle
 end_idle-requires-clause-idle g c =
-    let new = c.renew_session.new.owner in
-    idle_on c.args.shared.now c.in-Ok.next c.compare_by_turn-told.new.session
-    (renewed_idle c.entries_are_events.ensures c.args.shared.now c.args.owner.now new.seen c.args.session c.in-Ok.next c.renew_session.ensures.owner.log.tags (omega (arith, c.requires.passes_left.0)) c.in-Ok.ensures.session)
+    idle_on
+    (renewed_idle c.in-Ok.ensures.session c.entries_are_events.ensures c.renew_session.ensures.owner.log.tags (omega (arith, c.requires.passes_left.0)))
     c.compare_by_turn-told.ensures.idles
 
 pub compare_by_turn-told-requires-clause-seen : goal.compare_by_turn-told-requires-clause-seen
@@ -27,7 +24,7 @@ compare_by_turn-told-requires-clause-seen g c =
     let new = c.renew_session.new.owner in
     let x = c.in-Ok.ensures.session in
     seen_by c.args.shared.now c.in-Ok.next new.seen c.args.last.now x.of_store x.log
-    (seen_on c.args.shared.now.fixed c.args.owner.now.seen new.seen c.args.last.now c.requires.seen c.renew_session.ensures.begins.0)
+    (seen_on c.requires.seen c.renew_session.ensures.begins.0)
 
 pub returns-in_default-clause-stop : goal.returns-in_default-clause-stop
 returns-in_default-clause-stop g c = Stops.outside (IsOutside.starved refl)
@@ -46,14 +43,14 @@ returns-clause-stop g c =
     c.compare_by_turn-told.ensures.stop
 
 pub returns-in_default-clause-seen : goal.returns-in_default-clause-seen
-returns-in_default-clause-seen g c = seen_on c.args.shared.now.fixed c.args.owner.now.seen c.renew_session.new.owner.seen c.args.last.now c.requires.seen c.renew_session.ensures.begins.0
+returns-in_default-clause-seen g c = seen_on c.requires.seen c.renew_session.ensures.begins.0
 
 pub returns-clause-seen : goal.returns-clause-seen
 returns-clause-seen g c =
     let old = c.args.owner.now.seen in
     let mid = c.renew_session.new.owner.seen in
     let new = c.end_idle.new.owner.seen in
-    seen_on c.args.shared.now.fixed old new c.args.last.now c.requires.seen (begins_both old mid new c.renew_session.ensures.begins.0 c.end_idle.ensures.sessions.leaves.comes.begins)
+    seen_on c.requires.seen (begins_both old mid new c.renew_session.ensures.begins.0 c.end_idle.ensures.sessions.leaves.comes.begins)
 
 pub returns-clause-made : goal.returns-clause-made
 returns-clause-made g c = rw c.end_idle.ensures.made c.renew_session.ensures.made_most
@@ -82,15 +79,14 @@ returns-clause-begins g c =
 
 pub returns-in_default-clause-sessions : goal.returns-in_default-clause-sessions
 returns-in_default-clause-sessions g c =
-    let m = g.M.DoorMaker in
     let e = c.renew_session.ensures in
     let old = c.args.owner.now in
     let new = c.renew_session.new.owner in
     let leaves =
     leaves_unrenewed c.entries_are_events.ensures c.loads_close.ensures.own c.args.shared.now c.args.session old new c.requires.idle e.owner e.begins e.own e.before e.keeps c.in_default.ensures.none_entered
     in
-    one_ended m.is_true m.makes m.hands_out m.takes_back c.args.shared.now old new c.args.maker.now c.renew_session.new.maker leaves c.in_default.ensures.none_out c.in_default.ensures.taken_back
-    (record { truth_stays = e.truth_stays; plan_stays = e.plan_stays })
+    one_ended leaves c.in_default.ensures.none_out c.in_default.ensures.taken_back
+    (makes_so g.M.DoorMaker.is_true g.M.DoorMaker.makes c.args.maker.now c.renew_session.new.maker e.truth_stays e.plan_stays)
 
 pub returns-clause-sessions : goal.returns-clause-sessions
 returns-clause-sessions g c =
@@ -100,14 +96,13 @@ returns-clause-sessions g c =
     let ended = c.end_idle.ensures.sessions in
     let old = c.args.owner.now in
     let mid = c.renew_session.new.owner in
-    let new = c.end_idle.new.owner in
     let given = ap (λ (o : Owner). o.out) x.given in
     let first =
     leaves_renewed c.entries_are_events.ensures c.loads_close.ensures.own c.args.shared.now c.args.session old mid c.requires.idle e.owner.log.tags (ap (λ (o : Owner). o.kept) x.given) e.begins e.own e.before
     in
     record {
-      leaves = leaves_both old mid new first ended.leaves;
+      leaves = leaves_both first ended.leaves;
       out = omega (arith, given, ended.out);
       traffic = subst (λ (maker : _). Traffic m.hands_out m.takes_back 0 (1 * c.args.shared.now.providers) maker c.end_idle.new.maker) x.same_maker ended.traffic;
-      maker = makes_both m.is_true m.makes c.args.maker.now c.renew_session.new.maker c.end_idle.new.maker (record { truth_stays = e.truth_stays; plan_stays = e.plan_stays }) ended.maker;
+      maker = makes_both (makes_so g.M.DoorMaker.is_true g.M.DoorMaker.makes c.args.maker.now c.renew_session.new.maker e.truth_stays e.plan_stays) ended.maker;
     }

@@ -1,12 +1,11 @@
 use Rattle.std.proofs.Common.{subst, arith}
 use Rattle.turn_lock.specs.History.{Begins}
 use Rattle.client_session.specs.Sessions.{SessionState}
-use Rattle.watch_run.proofs.Ends.{seen_on}
+use Rattle.watch_run.proofs.Crews.{seen_on}
 use Rattle.watch_run.proofs.ending.agree_one.Goals as goal
 
 pub returns-then-has_place-clause-seen : goal.returns-then-has_place-clause-seen
-returns-then-has_place-clause-seen g c =
-    seen_on c.args.shared.now.fixed c.args.owner.now.seen c.agree_by_place.new.owner.seen c.args.standard.now.last c.requires.seen c.agree_by_place.ensures.sessions.leaves.comes.begins
+returns-then-has_place-clause-seen g c = seen_on c.requires.seen c.agree_by_place.ensures.sessions.leaves.comes.begins
 
 pub returns-then-has_place-clause-made : goal.returns-then-has_place-clause-made
 returns-then-has_place-clause-made g c = let e = c.agree_by_place.ensures.made in (omega (arith, e), omega (arith, e))

@@ -5,11 +5,11 @@ use Rattle.client_session.specs.Sessions.{SessionState}
 use Rattle.turn_lock.specs.History.{Begins}
 use Rattle.watch_run.specs.Readers.{WatcherState}
 use Rattle.request_form.specs.declared.form.Fault.{Fault}
-use Rattle.update_work.specs.Updates.{told_faults}
-use Rattle.update_work.proofs.Fresh.{rose_stop}
+use Rattle.workload_run.specs.Updates.{told_faults}
+use Rattle.workload_run.proofs.Returns.{rose_stop}
 use Rattle.watch_run.specs.Stops.{Stops}
-use Rattle.watch_run.proofs.Ends.{seen_on}
-use Rattle.watch_run.proofs.Stops.{stops_either}
+use Rattle.watch_run.proofs.Crews.{seen_on}
+use Rattle.watch_run.proofs.Refusals.{stops_either}
 use Rattle.watch_run.proofs.ending.agree_with.Goals as goal
 
 pub returns-in-Err-clause-stop : goal.returns-in-Err-clause-stop
@@ -25,7 +25,7 @@ returns-in-Err-clause-stop g c =
     (subst (λ (t : Result (List ℕ) Fault). IfErr t (λ fault. Stops f old fault ⊎ Stops f w.reader.session.log fault)) told c.requires.done.endable.stop)
 
 pub returns-in-Err-clause-seen : goal.returns-in-Err-clause-seen
-returns-in-Err-clause-seen g c = seen_on c.args.shared.now.fixed c.args.owner.now.seen c.end_idle.new.owner.seen c.args.standard.now.last c.requires.seen c.end_idle.ensures.sessions.leaves.comes.begins
+returns-in-Err-clause-seen g c = seen_on c.requires.seen c.end_idle.ensures.sessions.leaves.comes.begins
 
 pub returns-in-Err-clause-made : goal.returns-in-Err-clause-made
 returns-in-Err-clause-made g c = let e = c.end_idle.ensures.made in (omega (arith, e), omega (arith, e))

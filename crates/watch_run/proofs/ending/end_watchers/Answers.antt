@@ -4,17 +4,17 @@ use Rattle.turn_lock.specs.History.{Begins}
 use Rattle.turn_lock.proofs.Histories.{begins_both}
 use Rattle.request_form.specs.Replies.{page_faults}
 use Rattle.client_session.specs.Sessions.{SessionState}
-use Rattle.update_work.specs.Updates.{told_faults}
-use Rattle.update_work.proofs.Fresh.{rose_stop}
+use Rattle.workload_run.specs.Updates.{told_faults}
+use Rattle.workload_run.proofs.Returns.{rose_stop}
 use Rattle.watch_run.specs.Readers.{WatcherState}
 use Rattle.request_form.specs.declared.form.Fault.{Fault}
-use Rattle.update_work.specs.Left.{left_faults}
+use Rattle.workload_run.specs.Left.{left_faults}
 use Rattle.watch_run.specs.Crews.{IsEndable}
 use Rattle.watch_run.specs.Stages.{IsIdle}
 use Rattle.watch_run.specs.Stops.{Stops}
-use Rattle.watch_run.proofs.Ends.{all_front, all_last, rose_on, lower, stop_on}
-use Rattle.watch_run.proofs.Stops.{stops_either}
-use Rattle.watch_run.proofs.Sessions.{all_left, one_less, none_left}
+use Rattle.watch_run.proofs.Crews.{all_front, all_last, rose_on, lower, stop_on}
+use Rattle.watch_run.proofs.Refusals.{stops_either}
+use Rattle.watch_run.proofs.Stages.{all_left, one_less, none_left}
 use Rattle.watch_run.proofs.ending.end_watchers.Goals as goal
 
 pub loop-watcher-preserved : goal.loop-watcher-preserved
@@ -35,8 +35,7 @@ loop-watcher-preserved g c =
     let back = subst (λ (s : SessionState _). min (counts c.loop-watcher.maker + sum_by faults s.doors) (2 ^ 64 - 1) ≤ counts c.end_idle.new.maker) session e.doors in
     record {
       owner = e.owner;
-      sessions = one_less m.is_true m.makes m.hands_out m.takes_back store c.args.watchers.len c.loop-watcher.watchers.len c.pop.new.self.len c.args.owner.now c.loop-watcher.owner c.end_idle.new.owner c.args.maker.now
-          c.loop-watcher.maker c.end_idle.new.maker (sym c.in-Some.ensures.cases) i.sessions e.sessions;
+      sessions = one_less (sym c.in-Some.ensures.cases) i.sessions e.sessions;
       endable = all_front (IsEndable faults store c.args.owner.now.seen) c.pop.new.self.items one all;
       stop = stops_either store.fixed c.args.owner.now.seen one.reader.session.log c.end_idle.new.owner.seen c.in-Err.fault (begins_both c.args.owner.now.seen c.loop-watcher.owner.seen c.end_idle.new.owner.seen i.sessions.end.leaves.comes.begins e.sessions.leaves.comes.begins)
           (subst (λ (s : SessionState _). Begins s.log c.end_idle.new.owner.seen) session e.begins)
@@ -58,8 +57,7 @@ loop-watcher-preserved-in-Ok g c =
     let all = subst (λ (l : List (WatcherState _)). All (IsEndable faults store c.args.owner.now.seen) l) joined i.endable in
     record {
       owner = e.owner;
-      sessions = one_less m.is_true m.makes m.hands_out m.takes_back store c.args.watchers.len c.loop-watcher.watchers.len c.pop.new.self.len c.args.owner.now c.loop-watcher.owner c.end_idle.new.owner c.args.maker.now
-          c.loop-watcher.maker c.end_idle.new.maker (sym c.in-Some.ensures.cases) i.sessions e.sessions;
+      sessions = one_less (sym c.in-Some.ensures.cases) i.sessions e.sessions;
       endable = all_front (IsEndable faults store c.args.owner.now.seen) c.pop.new.self.items one all;
       stop = stop_on store.fixed c.loop-watcher.owner.seen c.end_idle.new.owner.seen c.loop-watcher.stop e.sessions.leaves.comes.begins i.stop;
       doors = rose_on (left_faults c.loop-watcher.stop) (counts c.args.maker.now) (counts c.loop-watcher.maker) (sum_by faults c.into_session.result.doors) (counts c.end_idle.new.maker) i.doors e.doors;
@@ -68,7 +66,7 @@ loop-watcher-preserved-in-Ok g c =
 pub loop-watcher-init : goal.loop-watcher-init
 loop-watcher-init g c = record {
   owner = c.requires.owner;
-  sessions = (let m = g.M.DoorMaker in all_left m.is_true m.makes m.hands_out m.takes_back c.args.shared.now c.args.watchers.len c.args.owner.now c.args.maker.now);
+  sessions = all_left c.args.watchers.len c.args.owner.now c.args.maker.now;
   endable = c.requires.endable;
   stop = tt;
   doors = λ less. omega arith;
@@ -84,9 +82,8 @@ end_idle-requires-clause-idle g c =
 
 pub returns-clause-sessions : goal.returns-clause-sessions
 returns-clause-sessions g c =
-    let m = g.M.DoorMaker in
     let l = c.loop-watcher in
-    none_left m.is_true m.makes m.hands_out m.takes_back c.args.shared.now c.args.watchers.len l.watchers.len c.args.owner.now l.owner c.args.maker.now l.maker c.in_default.ensures.cases.0 l.invariant.sessions
+    none_left c.in_default.ensures.cases.0 l.invariant.sessions
 
 pub returns-clause-doors : goal.returns-clause-doors
 returns-clause-doors g c = c.loop-watcher.invariant.doors

@@ -2,9 +2,9 @@ use Rattle.std.proofs.Common.{◌+◌, ◌-◌, ◌^◌, ◌<◌, ◌≤◌, vec
 use Rattle.std.specs.Prelude.{All, IfSome}
 use Rattle.client_session.specs.Sessions.{IsOwnerOf}
 use Rattle.watch_run.specs.Stops.{Stops}
-use Rattle.update_work.specs.Left.{left_faults}
+use Rattle.workload_run.specs.Left.{left_faults}
 use Rattle.watch_run.specs.Crews.{IsEndable}
-use Rattle.watch_run.proofs.Sessions.{HaveEnded}
+use Rattle.watch_run.proofs.Stages.{HaveEnded}
 use Rattle.watch_run.proofs.ending.end_watchers.Given as goal
 
 abbrev pub invariant-loop-watcher : goal.invariant-loop-watcher

@@ -1,5 +1,5 @@
 use Rattle.std.proofs.Common.{arith}
-use Rattle.watch_run.proofs.Kept.{refreshes_none, refreshes_both, one_more}
+use Rattle.watch_run.proofs.Idling.{refreshes_none, refreshes_both, one_more}
 use Rattle.watch_run.proofs.keeping.keep_all.Goals as goal
 
 pub refreshes-init : goal.refreshes-init

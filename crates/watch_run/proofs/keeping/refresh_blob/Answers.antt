@@ -1,7 +1,7 @@
 use Rattle.std.proofs.Common.{◌∙◌, ap, subst, Err}
 use Rattle.read_board.specs.declared.keeper.RefreshFault.{RefreshFault}
 use Rattle.read_board.specs.Causes.{RefreshCause}
-use Rattle.watch_run.proofs.Kept.{not_full, left_pending, hindered}
+use Rattle.watch_run.proofs.Idling.{not_full, left_pending, hindered}
 use Rattle.watch_run.proofs.keeping.refresh_blob.Goals as goal
 
 pub unreachable-requires : goal.unreachable-requires

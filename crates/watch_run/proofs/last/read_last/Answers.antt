@@ -36,7 +36,7 @@ returns-in-Err-read_version-clause-hindered g c =
     c.in-Err-read_version.ensures.reads
 
 pub returns-in-Ok-read_version-clause-idles : goal.returns-in-Ok-read_version-clause-idles
-returns-in-Ok-read_version-clause-idles g c = idles_both c.args.session.now c.refresh_blob.new.session c.read_version.new.session c.in-Ok.ensures.refreshes.idles c.read_version.ensures.idles
+returns-in-Ok-read_version-clause-idles g c = idles_both c.in-Ok.ensures.refreshes.idles c.read_version.ensures.idles
 
 pub returns-in-Err-read_version-clause-idles : goal.returns-in-Err-read_version-clause-idles
-returns-in-Err-read_version-clause-idles g c = idles_both c.args.session.now c.refresh_blob.new.session c.read_version.new.session c.in-Ok.ensures.refreshes.idles c.read_version.ensures.idles
+returns-in-Err-read_version-clause-idles g c = idles_both c.in-Ok.ensures.refreshes.idles c.read_version.ensures.idles

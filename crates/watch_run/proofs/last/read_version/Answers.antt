@@ -17,7 +17,7 @@ returns-in-Ok-clause-idles g c =
     let mid = c.open.new.self in
     let s' = c.read_at.new.self in
     let same = c.read_at.ensures.seen_stays in
-    idles_both s mid s' (idles_opened s mid s' c.args.version c.open.result c.open.ensures.opening c.sessions_own.ensures.gaps c.open.ensures.goes_on) (record {
+    idles_both (idles_opened s mid s' c.args.version c.open.result c.open.ensures.opening c.sessions_own.ensures.gaps c.open.ensures.goes_on) (record {
       none = ap (λ (x : SessionState _). events_by mid.caller (events x.log)) same;
       goes_on = stays_on mid s' same;
     })

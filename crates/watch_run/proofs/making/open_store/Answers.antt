@@ -2,11 +2,11 @@ use Rattle.std.proofs.Common.{◌≡◌, ◌∙◌, ap, arith}
 use Rattle.std.specs.Prelude.{sum_by}
 use Rattle.client_session.specs.Sessions.{StoreState}
 use Rattle.store_sessions.proofs.Traffics
-use Rattle.update_work.specs.Updates.{told_faults}
+use Rattle.workload_run.specs.Updates.{told_faults}
 use Rattle.watch_run.specs.Stages.{Owner}
-use Rattle.watch_run.proofs.Ends.{rose_told}
-use Rattle.watch_run.proofs.Sessions.{makes_so, makes_both}
-use Rattle.watch_run.proofs.Stages.{took, opens_as}
+use Rattle.watch_run.proofs.Crews.{rose_told}
+use Rattle.watch_run.proofs.Stages.{makes_so, makes_both, opens_as}
+use Rattle.workload_run.proofs.Returns.{took}
 use Rattle.watch_run.proofs.making.open_store.Goals as goal
 
 pub returns-clause-opens : goal.returns-clause-opens
@@ -51,4 +51,4 @@ returns-clause-maker g c =
     let first = c.args.maker.now in
     let mid = c.open_session.new.maker in
     let last = c.end_session.new.maker in
-    makes_both m.is_true m.makes first mid last (makes_so m.is_true m.makes first mid i.truth_stays i.plan_stays) (makes_so m.is_true m.makes mid last e.truth_stays e.plan_stays)
+    makes_both (makes_so m.is_true m.makes first mid i.truth_stays i.plan_stays) (makes_so m.is_true m.makes mid last e.truth_stays e.plan_stays)

@@ -4,7 +4,7 @@ use Rattle.faults.specs.Counts.{RoseBy}
 use Rattle.read_board.specs.Reads.{goes_by}
 use Rattle.watch_run.specs.Readers.{ReadHindered}
 use Rattle.watch_run.proofs.Idling.{idles_goes}
-use Rattle.watch_run.proofs.Noted.{gave, not_given, bytes_noted, passed_over}
+use Rattle.watch_run.proofs.Crews.{gave, not_given, bytes_noted, passed_over}
 use Rattle.watch_run.proofs.Refusals.{read_stops, stopped}
 use Rattle.watch_run.proofs.notes.read_noted.Goals as goal
 

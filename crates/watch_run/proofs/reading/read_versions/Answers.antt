@@ -1,5 +1,5 @@
-use Rattle.watch_run.proofs.Noted.{noted_more}
-use Rattle.watch_run.proofs.ReadOn.{read_none, read_both}
+use Rattle.watch_run.proofs.Crews.{noted_more}
+use Rattle.watch_run.proofs.Idling.{read_none, read_both}
 use Rattle.watch_run.proofs.reading.read_versions.Goals as goal
 
 pub reads-init : goal.reads-init

@@ -5,13 +5,10 @@ use Rattle.read_board.specs.Fronts.{BoardId}
 use Rattle.workload_law.specs.WatchNotes.{NotesState}
 use Rattle.watch_run.specs.Crews.{IsDoneWatching, AllCameToEnd}
 use Rattle.watch_run.specs.Ending.{FinishHindered}
-use Rattle.watch_run.proofs.Crews.{all_done_on, all_done_end}
-use Rattle.watch_run.proofs.Kept.{versions_more}
-use Rattle.watch_run.proofs.Ends.{rose_later, rose_before}
-use Rattle.watch_run.proofs.Doors.{read_and_ended, came_and_ended}
-use Rattle.watch_run.proofs.Finishing.{finished, finish_later}
-use Rattle.watch_run.proofs.Sessions.{makes_both}
-use Rattle.watch_run.proofs.Stages.{leaves_both}
+use Rattle.watch_run.proofs.Crews.{all_done_on, all_done_end, rose_later, rose_before}
+use Rattle.watch_run.proofs.Idling.{versions_more}
+use Rattle.watch_run.proofs.Stages.{read_and_ended, came_and_ended, makes_both, leaves_both}
+use Rattle.watch_run.proofs.Lasts.{finished, finish_later}
 use Rattle.watch_run.proofs.watching.finish.Goals as goal
 
 pub agree_all-requires-clause-told : goal.agree_all-requires-clause-told
@@ -21,8 +18,7 @@ pub agree_all-requires-clause-seen : goal.agree_all-requires-clause-seen
 agree_all-requires-clause-seen g c = c.in-Ok.ensures.read.known
 
 pub returns-in-Ok-agree_all-clause-finishes : goal.returns-in-Ok-agree_all-clause-finishes
-returns-in-Ok-agree_all-clause-finishes g c =
-    finished c.args.shared.now.fixed c.read_back.new.keeper.shown _ c.args.owner.now c.read_back.new.owner c.agree_all.new.owner c.in-Ok.last c.in-Ok.ensures.read c.agree_all.ensures.sessions.leaves _ _ c.len.ensures c.in-Ok-agree_all.ensures.all
+returns-in-Ok-agree_all-clause-finishes g c = finished c.in-Ok.ensures.read c.agree_all.ensures.sessions.leaves _ _ c.len.ensures c.in-Ok-agree_all.ensures.all
 
 pub returns-in-Ok-agree_all-clause-noted : goal.returns-in-Ok-agree_all-clause-noted
 returns-in-Ok-agree_all-clause-noted g c =
@@ -33,15 +29,13 @@ returns-in-Ok-agree_all-clause-noted g c =
     }
 
 pub returns-in-Ok-clause-finishes : goal.returns-in-Ok-clause-finishes
-returns-in-Ok-clause-finishes g c =
-    FinishHindered.stops (leaves_both c.args.owner.now c.read_back.new.owner c.agree_all.new.owner c.read_back.ensures.leaves c.agree_all.ensures.sessions.leaves) c.in-Err-agree_all.ensures.stop
+returns-in-Ok-clause-finishes g c = FinishHindered.stops (leaves_both c.read_back.ensures.leaves c.agree_all.ensures.sessions.leaves) c.in-Err-agree_all.ensures.stop
 
 pub returns-in-Some-clause-finishes : goal.returns-in-Some-clause-finishes
-returns-in-Some-clause-finishes g c =
-    FinishHindered.stops (leaves_both c.args.owner.now c.read_back.new.owner c.end_watchers.new.owner c.read_back.ensures.leaves c.end_watchers.ensures.sessions.leaves) c.in-Some.ensures.stop
+returns-in-Some-clause-finishes g c = FinishHindered.stops (leaves_both c.read_back.ensures.leaves c.end_watchers.ensures.sessions.leaves) c.in-Some.ensures.stop
 
 pub returns-clause-finishes : goal.returns-clause-finishes
-returns-clause-finishes g c = finish_later c.args.shared.now.fixed c.args.owner.now c.read_back.new.owner c.end_watchers.new.owner c.in-Err.fault c.in-Err.ensures.hindered c.end_watchers.ensures.sessions.leaves
+returns-clause-finishes g c = finish_later c.in-Err.ensures.hindered c.end_watchers.ensures.sessions.leaves
 
 pub returns-in-Ok-agree_all-clause-lent : goal.returns-in-Ok-agree_all-clause-lent
 returns-in-Ok-agree_all-clause-lent g c =
@@ -49,24 +43,13 @@ returns-in-Ok-agree_all-clause-lent g c =
     read_and_ended m.hands_out m.takes_back c.args.shared.now.providers (vec_len c.args.watchers) c.args.doors.now c.read_back.new.doors c.agree_all.new.maker c.in-Ok.ensures.lent c.agree_all.ensures.sessions.traffic
 
 pub returns-in-Ok-clause-lent : goal.returns-in-Ok-clause-lent
-returns-in-Ok-clause-lent g c =
-    let m = g.M.DoorMaker in
-    let p = c.args.shared.now.providers in
-    came_and_ended m.hands_out m.takes_back p (vec_len c.args.watchers) c.args.doors.now c.read_back.new.doors c.agree_all.new.maker (p, c.in-Ok.ensures.lent) c.agree_all.ensures.sessions.traffic
+returns-in-Ok-clause-lent g c = came_and_ended (c.args.shared.now.providers, c.in-Ok.ensures.lent) c.agree_all.ensures.sessions.traffic
 
 pub returns-in-Some-clause-lent : goal.returns-in-Some-clause-lent
-returns-in-Some-clause-lent g c =
-    let m = g.M.DoorMaker in
-    let p = c.args.shared.now.providers in
-    let n = vec_len c.args.watchers in
-    came_and_ended m.hands_out m.takes_back p n c.args.doors.now c.read_back.new.doors c.end_watchers.new.maker c.in-Err.ensures.lent c.end_watchers.ensures.sessions.traffic
+returns-in-Some-clause-lent g c = came_and_ended c.in-Err.ensures.lent c.end_watchers.ensures.sessions.traffic
 
 pub returns-clause-lent : goal.returns-clause-lent
-returns-clause-lent g c =
-    let m = g.M.DoorMaker in
-    let p = c.args.shared.now.providers in
-    let n = vec_len c.args.watchers in
-    came_and_ended m.hands_out m.takes_back p n c.args.doors.now c.read_back.new.doors c.end_watchers.new.maker c.in-Err.ensures.lent c.end_watchers.ensures.sessions.traffic
+returns-clause-lent g c = came_and_ended c.in-Err.ensures.lent c.end_watchers.ensures.sessions.traffic
 
 pub agree_all-requires-clause-passes_left : goal.agree_all-requires-clause-passes_left
 agree_all-requires-clause-passes_left g c =
@@ -124,21 +107,13 @@ returns-clause-doors g c =
     rose_before (page_faults c.in-Err.fault) 0 (counts c.args.doors.now) (counts c.read_back.new.doors) (counts c.end_watchers.new.maker) c.in-Err.ensures.doors c.in-None.ensures.doors
 
 pub returns-in-Ok-agree_all-clause-maker : goal.returns-in-Ok-agree_all-clause-maker
-returns-in-Ok-agree_all-clause-maker g c =
-    let m = g.M.DoorMaker in
-    makes_both m.is_true m.makes c.args.doors.now c.read_back.new.doors c.agree_all.new.maker c.read_back.ensures.maker c.agree_all.ensures.sessions.maker
+returns-in-Ok-agree_all-clause-maker g c = makes_both c.read_back.ensures.maker c.agree_all.ensures.sessions.maker
 
 pub returns-in-Ok-clause-maker : goal.returns-in-Ok-clause-maker
-returns-in-Ok-clause-maker g c =
-    let m = g.M.DoorMaker in
-    makes_both m.is_true m.makes c.args.doors.now c.read_back.new.doors c.agree_all.new.maker c.read_back.ensures.maker c.agree_all.ensures.sessions.maker
+returns-in-Ok-clause-maker g c = makes_both c.read_back.ensures.maker c.agree_all.ensures.sessions.maker
 
 pub returns-in-Some-clause-maker : goal.returns-in-Some-clause-maker
-returns-in-Some-clause-maker g c =
-    let m = g.M.DoorMaker in
-    makes_both m.is_true m.makes c.args.doors.now c.read_back.new.doors c.end_watchers.new.maker c.read_back.ensures.maker c.end_watchers.ensures.sessions.maker
+returns-in-Some-clause-maker g c = makes_both c.read_back.ensures.maker c.end_watchers.ensures.sessions.maker
 
 pub returns-clause-maker : goal.returns-clause-maker
-returns-clause-maker g c =
-    let m = g.M.DoorMaker in
-    makes_both m.is_true m.makes c.args.doors.now c.read_back.new.doors c.end_watchers.new.maker c.read_back.ensures.maker c.end_watchers.ensures.sessions.maker
+returns-clause-maker g c = makes_both c.read_back.ensures.maker c.end_watchers.ensures.sessions.maker

@@ -3,16 +3,16 @@ use Rattle.std.specs.Prelude.{sum_by}
 use Rattle.client_session.specs.Sessions.{StoreState}
 use Rattle.read_board.specs.Refreshing.{AllHold}
 use Rattle.store_sessions.proofs.Traffics
-use Rattle.update_work.specs.Updates.{told_faults}
+use Rattle.workload_run.specs.Updates.{told_faults}
 use Rattle.workload_law.specs.Ends.{IsOutside}
 use Rattle.watch_run.specs.Ending.{FinishHindered}
-use Rattle.watch_run.specs.Stages.{Owner, Entries}
+use Rattle.watch_run.specs.Stages.{Owner, Entries, LeavesWatch}
 use Rattle.watch_run.specs.Stops.{Stops}
-use Rattle.watch_run.proofs.Crews.{idle_on, told_read, told_lost}
-use Rattle.watch_run.proofs.Ends.{rose_told}
-use Rattle.watch_run.proofs.Finishing.{finish_hindered, read_back}
-use Rattle.watch_run.proofs.Sessions.{taken, makes_both}
-use Rattle.watch_run.proofs.Stages.{new_idle, leaves_both, leaves_given, leaves_unmade}
+use Rattle.watch_run.proofs.Crews.{idle_on, told_read, told_lost, rose_told}
+use Rattle.watch_run.proofs.Lasts.{finish_hindered, read_back}
+use Rattle.watch_run.proofs.Stages.{makes_so, taken, makes_both, new_idle, leaves_both, leaves_given, leaves_unmade}
+use Rattle.watch_run.proofs.watching.read_back.Given.{Over}
+use Rattle.watch_run.proofs.watching.read_back.Goals.{After-end_idle}
 use Rattle.watch_run.proofs.watching.read_back.Goals as goal
 
 pub read_last-told-requires : goal.read_last-told-requires
@@ -30,38 +30,35 @@ read_last-told-requires g c =
 
 pub end_idle-requires-clause-idle : goal.end_idle-requires-clause-idle
 end_idle-requires-clause-idle g c =
-    idle_on c.args.shared.now c.in-Ok.session c.read_last-told.new.session
-    (new_idle g.M.Door.Door.faults c.entries_are_events.ensures c.args.shared.now c.args.owner.now c.in-Ok.session c.requires.owner.log.tags (omega (arith, c.requires.passes_left)) c.in-Ok.ensures.session)
+    idle_on
+    (new_idle c.in-Ok.ensures.session c.entries_are_events.ensures c.requires.owner.log.tags (omega (arith, c.requires.passes_left)))
     c.read_last-told.ensures.idles
+
+-- no caller but the first two has events then
+leaves : (g : Over) (c : After-end_idle g) → LeavesWatch c.args.owner.now c.end_idle.new.owner
+leaves g c =
+    let given = c.in-Ok.ensures.given in
+    leaves_both (leaves_given c.args.owner.now c.open_session.new.owner (ap (λ (o : Owner). o.seen) given) (ap (λ (o : Owner). o.kept) given)) c.end_idle.ensures.sessions.leaves
+
+pub returns-clause-leaves : goal.returns-clause-leaves
+returns-clause-leaves g c = leaves g (goal.at.returns-clause-leaves g c).After-end_idle
 
 pub returns-clause-read : goal.returns-clause-read
 returns-clause-read g c =
-    let x = c.in-Ok.ensures in
+    let x = c.in-Ok.ensures.session in
     let r = c.read_last-told.ensures in
-    let e = c.end_idle.ensures in
-    let old = c.args.owner.now in
-    let new = c.end_idle.new.owner in
-    let leaves = leaves_both old c.open_session.new.owner new (leaves_given old c.open_session.new.owner (ap (λ (o : Owner). o.seen) x.given) (ap (λ (o : Owner). o.kept) x.given)) e.sessions.leaves in
     told_read c.read_last-told.result
-    (λ last is. read_back c.read_last-told.new.keeper c.in-Ok.session c.read_last-told.new.session c.args.shared.now old new x.session.of_store (r.idles.goes_on.store ∙ x.session.of_store) x.session.log leaves e.begins last is) r.last
+    (λ last is. read_back c.read_last-told.new.keeper c.in-Ok.session c.read_last-told.new.session c.args.shared.now c.args.owner.now c.end_idle.new.owner x.of_store (r.idles.goes_on.store ∙ x.of_store) x.log
+    (leaves g (goal.at.returns-clause-read g c).After-end_idle) c.end_idle.ensures.begins last is) r.last
 
 pub returns-clause-hindered : goal.returns-clause-hindered
 returns-clause-hindered g c =
-    let x = c.in-Ok.ensures in
+    let x = c.in-Ok.ensures.session in
     let r = c.read_last-told.ensures in
-    let e = c.end_idle.ensures in
-    let old = c.args.owner.now in
-    let new = c.end_idle.new.owner in
-    let leaves = leaves_both old c.open_session.new.owner new (leaves_given old c.open_session.new.owner (ap (λ (o : Owner). o.seen) x.given) (ap (λ (o : Owner). o.kept) x.given)) e.sessions.leaves in
     told_lost c.read_last-told.result
-    (λ fault by. finish_hindered c.in-Ok.session c.read_last-told.new.session fault c.args.shared.now old new by x.session.of_store (r.idles.goes_on.store ∙ x.session.of_store) x.session.log r.idles.goes_on.begins leaves e.begins)
+    (λ fault by. finish_hindered c.in-Ok.session c.read_last-told.new.session fault c.args.shared.now c.args.owner.now c.end_idle.new.owner by x.of_store (r.idles.goes_on.store ∙ x.of_store) x.log
+    r.idles.goes_on.begins (leaves g (goal.at.returns-clause-hindered g c).After-end_idle) c.end_idle.ensures.begins)
     r.hindered
-
-pub returns-clause-leaves : goal.returns-clause-leaves
-returns-clause-leaves g c =
-    let x = c.in-Ok.ensures in
-    leaves_both c.args.owner.now c.open_session.new.owner c.end_idle.new.owner
-    (leaves_given c.args.owner.now c.open_session.new.owner (ap (λ (o : Owner). o.seen) x.given) (ap (λ (o : Owner). o.kept) x.given)) c.end_idle.ensures.sessions.leaves
 
 pub returns-in_default-clause-leaves : goal.returns-in_default-clause-leaves
 returns-in_default-clause-leaves g c =
@@ -81,7 +78,7 @@ returns-clause-lent g c =
     let p = c.args.shared.now.providers in
     Traffics.lent hands_out takes_back p c.args.doors.now c.end_idle.new.maker c.read_last-told.result
     (Traffics.went_back hands_out takes_back p c.args.doors.now c.open_session.new.maker c.end_idle.new.maker c.in-Ok.ensures.handed_out
-    (taken g.M.DoorMaker.is_true g.M.DoorMaker.makes hands_out takes_back c.args.shared.now c.open_session.new.owner c.end_idle.new.owner c.open_session.new.maker c.end_idle.new.maker c.end_idle.ensures.sessions))
+    (taken c.end_idle.ensures.sessions))
 
 pub returns-clause-out : goal.returns-clause-out
 returns-clause-out g c = let given = ap (λ (o : Owner). o.out) c.in-Ok.ensures.given in omega (arith, given, c.end_idle.ensures.sessions.out)
@@ -103,6 +100,5 @@ returns-in_default-clause-maker g c = let i = c.open_session.ensures in record {
 
 pub returns-clause-maker : goal.returns-clause-maker
 returns-clause-maker g c =
-    let m = g.M.DoorMaker in
     let i = c.open_session.ensures in
-    makes_both m.is_true m.makes c.args.doors.now c.open_session.new.maker c.end_idle.new.maker (record { truth_stays = i.truth_stays; plan_stays = i.plan_stays }) c.end_idle.ensures.sessions.maker
+    makes_both (makes_so g.M.DoorMaker.is_true g.M.DoorMaker.makes c.args.doors.now c.open_session.new.maker i.truth_stays i.plan_stays) c.end_idle.ensures.sessions.maker

@@ -1,10 +1,9 @@
 use Rattle.std.proofs.Common.{⊎_elim}
-use Rattle.update_work.specs.Updates.{told_faults}
+use Rattle.workload_run.specs.Updates.{told_faults}
 use Rattle.page_store.proofs.CallsLemmas.{all_came_back_join}
 use Rattle.watch_run.specs.Ending.{EndsBy}
-use Rattle.watch_run.proofs.Doors.{all_lent}
-use Rattle.watch_run.proofs.Ends.{rose_thrice}
-use Rattle.watch_run.proofs.Sessions.{makes_both}
+use Rattle.watch_run.proofs.Stages.{all_lent, makes_both}
+use Rattle.watch_run.proofs.Crews.{rose_thrice}
 use Rattle.watch_run.proofs.watching.run_watch.Goals as goal
 
 pub returns-in-Err-clause-ends : goal.returns-in-Err-clause-ends
@@ -38,16 +37,12 @@ pub returns-in_default-clause-maker : goal.returns-in_default-clause-maker
 returns-in_default-clause-maker g c = c.open_store.ensures.maker
 
 pub returns-in-Err-crew_of-clause-maker : goal.returns-in-Err-crew_of-clause-maker
-returns-in-Err-crew_of-clause-maker g c =
-    let m = g.M.DoorMaker in
-    makes_both m.is_true m.makes c.args.doors.now c.open_store.new.maker c.crew_of.new.maker c.open_store.ensures.maker c.crew_of.ensures.maker
+returns-in-Err-crew_of-clause-maker g c = makes_both c.open_store.ensures.maker c.crew_of.ensures.maker
 
 pub returns-in-Ok-crew_of-clause-maker : goal.returns-in-Ok-crew_of-clause-maker
 returns-in-Ok-crew_of-clause-maker g c =
-    let m = g.M.DoorMaker in
-    let called = c.crew_of.new.maker in
-    makes_both m.is_true m.makes c.args.doors.now called c.work.new.doors
-    (makes_both m.is_true m.makes c.args.doors.now c.open_store.new.maker called c.open_store.ensures.maker c.crew_of.ensures.maker) c.work.ensures.maker
+    makes_both
+    (makes_both c.open_store.ensures.maker c.crew_of.ensures.maker) c.work.ensures.maker
 
 pub crew_of-requires-clause-true_doors : goal.crew_of-requires-clause-true_doors
 crew_of-requires-clause-true_doors g c = c.open_store.ensures.maker.truth_stays.0 c.requires.true_doors

@@ -5,11 +5,11 @@ use Rattle.blob_model.specs.declared.call.Event.{Event}
 use Rattle.turn_lock.specs.History.{LacksUngiven}
 use Rattle.version_manager.specs.Log.{events}
 use Rattle.watch_run.proofs.Closed.{closed, closed_is, closed_done}
-use Rattle.update_work.specs.declared.ending.EarlyEnd.{EarlyEnd}
-use Rattle.update_work.proofs.Early.{early_of}
-use Rattle.update_work.proofs.Returns.{closed_history, events_tagged}
+use Rattle.workload_run.specs.declared.ending.EarlyEnd.{EarlyEnd}
+use Rattle.workload_run.proofs.Early.{early_of}
+use Rattle.workload_run.proofs.Returns.{closed_history, events_tagged}
 use Rattle.workload_law.specs.Watch.{IsWatch, IsWatchPage}
-use Rattle.update_work.specs.Ending.{EndsEarly}
+use Rattle.workload_run.specs.Ending.{EndsEarly}
 use Rattle.watch_run.proofs.watching.watch_noted.Goals as goal
 
 pub returns-in-Ok-told-clause-came : goal.returns-in-Ok-told-clause-came

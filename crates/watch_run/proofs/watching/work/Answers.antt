@@ -4,58 +4,73 @@ use Rattle.request_form.specs.Replies.{page_faults}
 use Rattle.page_store.specs.Calls.{Traffic}
 use Rattle.turn_lock.specs.History.{entries_by, Begins}
 use Rattle.turn_lock.proofs.Histories.{begins_both}
-use Rattle.version_manager.specs.Log.{tagged, events}
 use Rattle.client_session.specs.Sessions.{StoreState}
 use Rattle.read_board.specs.Fronts.{BoardId}
 use Rattle.read_board.specs.declared.refresh.Refresh.{Refresh}
 use Rattle.read_board.specs.Keeping.{KeeperState}
 use Rattle.read_board.specs.Refreshing.{AllHold}
 use Rattle.watch_run.specs.Readers.{WatcherState, StandsAt, HasMet}
-use Rattle.update_work.proofs.Returns.{none_by}
-use Rattle.update_work.proofs.Fresh.{fresh_at}
+use Rattle.workload_run.proofs.Returns.{TookBack, took, none_by, fresh_new}
 use Rattle.workload_law.specs.WatchNotes.{HaveNoted}
 use Rattle.watch_run.specs.Noting.{IsPieceSeen}
 use Rattle.watch_run.specs.Ending.{Finishes, NotesOf}
-use Rattle.watch_run.specs.Doors.{EndDoors}
-use Rattle.watch_run.proofs.Doors.{crew_told, crew_ended}
-use Rattle.update_work.specs.Updates.{told_faults}
-use Rattle.update_work.specs.Left.{left_faults}
+use Rattle.watch_run.specs.Doors.{EndDoors, MakesAsBefore}
+use Rattle.watch_run.proofs.Stages.{makes_so, crew_told, crew_ended, taken, makes_both, new_idle, leaves_both, some_created}
+use Rattle.workload_run.specs.Updates.{told_faults}
+use Rattle.workload_run.specs.Left.{left_faults}
 use Rattle.watch_run.specs.Crews.{IsDoneWatching}
 use Rattle.watch_run.specs.Stages.{Entries, Owner}
-use Rattle.watch_run.proofs.Crews.{idle_on, all_stand, all_done, all_done_end}
-use Rattle.watch_run.proofs.Sessions.{taken, makes_so, makes_both}
-use Rattle.watch_run.proofs.Stages.{TookBack, took, new_idle, leaves_both, some_created}
-use Rattle.watch_run.proofs.Ends.{rose_told, rose_after, rose_early}
-use Rattle.watch_run.proofs.Noted.{all_read, notes_seen}
-use Rattle.watch_run.proofs.Works.{ends_by_finish, ends_early, both_done, kept_done, early_counts}
+use Rattle.watch_run.proofs.Crews.{HaveReadOn, idle_on, all_stand, all_done, all_done_end, rose_told, rose_after, rose_early, all_read, notes_seen}
+use Rattle.watch_run.proofs.Works.{WriterBack, ends_by_finish, ends_early, both_done, kept_done, early_counts}
+use Rattle.watch_run.proofs.watching.work.Given.{Over}
+use Rattle.watch_run.proofs.watching.work.Goals.{After-end_idle}
 use Rattle.watch_run.proofs.watching.work.Goals as goal
 
-pub work_beside-keeper-requires-clause-fresh : goal.work_beside-keeper-requires-clause-fresh
-work_beside-keeper-requires-clause-fresh g c κs within =
+-- the readers have read
+read_on : (g : Over) (c : After-end_idle g) → HaveReadOn g.M.Door.Door.faults c.args.shared.now c.args.callers.keeper.board c.args.owner.now.seen c.work_beside-keeper.result.1.keeping.log
+    c.work_beside-keeper.result.0.all c.args.plan.now c.args.callers.crew.watchers.items c.work_beside-keeper.result.1.watchers.items
+read_on g c =
+    let r = c.work_beside-keeper.result in
+    let x = c.work_beside-keeper.ensures in
+    let kept = x.kept.refreshes in
+    record {
+      some = some_created c.args.owner.now.seen c.requires.opened.created;
+      from = subst (λ (l : Entries). Begins l r.1.keeping.log) c.requires.keeping.log kept.idles.goes_on.begins;
+      hold = subst (λ (t : StoreState). AllHold t.fixed r.1.keeping.log r.0.all) (kept.idles.goes_on.store ∙ c.requires.keeping.of_store) kept.may.hold;
+      count = omega (arith, x.count, c.args.callers.crew.watchers.ok.0, r.1.watchers.ok.0);
+      ready = c.requires.ready;
+      have = x.watched;
+      met = subst (λ (l : List (WatcherState _)). All (HasMet r.0.all) l) c.as_slice.ensures.value c.meet_all.ensures.met;
+    }
+
+-- the writer's pass came back
+writer_back : (g : Over) (c : After-end_idle g)
+    → WriterBack c.args.plan.now c.args.shared.now.fixed c.args.callers.crew.writer c.work_beside-keeper.result.1.writer c.work_beside-keeper.result.2 c.args.owner.now c.end_session.new.owner
+writer_back g c =
+    let w = c.requires.writer in
     let s = c.args.callers.crew.writer in
-    let new = c.requires.writer in
-    fresh_at s c.entries_are_events.ensures 1 new.caller (ap (λ (t : StoreState). t.fixed.limits) new.of_store ∙ c.requires.limits)
-    (subst (λ (l : Entries). l ≡ tagged (events l)) (sym new.log) c.requires.owner.log.tags) (subst (λ (n : ℕ). entries_by n s.log ≡ []) new.caller new.none) new.none_held new.limit
+    let s' = c.work_beside-keeper.result.1.writer in
+    let first = c.args.owner.now in
+    let x = c.work_beside-keeper.ensures in
+    let e = c.end_session.ensures in
+    record {
+      ends = x.written.ends;
+      took = subst (λ (n : ℕ). TookBack n s'.log first c.end_session.new.owner) (x.written.goes_on.caller ∙ w.caller)
+          (took c.args.shared.now s'.caller s'.log first c.end_session.new.owner e.counts e.begins e.own e.before e.owner);
+      called = c.requires.opened;
+      log = w.log;
+      fresh = none_by c.entries_are_events.ensures first.seen 2 c.requires.owner.log.tags (subst (λ (l : Entries). entries_by 2 l ≡ []) w.log (subst (λ (n : ℕ). entries_by n s.log ≡ []) w.caller w.none));
+      fixed = ap (λ (t : StoreState). t.fixed) w.of_store;
+    }
+
+pub work_beside-keeper-requires-clause-fresh : goal.work_beside-keeper-requires-clause-fresh
+work_beside-keeper-requires-clause-fresh g c κs within = fresh_new c.entries_are_events.ensures c.requires.owner.log.tags c.requires.limits c.requires.writer
 
 pub end_idle-requires-clause-idle : goal.end_idle-requires-clause-idle
 end_idle-requires-clause-idle g c =
-    let owner : Owner = record c.args.owner.now { made = 2 } in
-    idle_on c.args.shared.now c.args.callers.crew.keeping c.work_beside-keeper.result.1.keeping
-    (new_idle g.M.Door.Door.faults c.entries_are_events.ensures c.args.shared.now owner c.args.callers.crew.keeping c.requires.owner.log.tags (omega arith) c.requires.keeping)
+    idle_on
+    (new_idle c.requires.keeping c.entries_are_events.ensures c.requires.owner.log.tags (omega arith))
     c.work_beside-keeper.ensures.kept.refreshes.idles
-
-pub meet_all-requires : goal.meet_all-requires
-meet_all-requires g c =
-    let faults = g.M.Door.Door.faults in
-    let store = c.args.shared.now in
-    let ws = c.args.callers.crew.watchers in
-    let r = c.work_beside-keeper.result in
-    let x = c.work_beside-keeper.ensures in
-    let count : length r.1.watchers.items ≡ length ws.items = omega (arith, x.count, ws.ok.0, r.1.watchers.ok.0) in
-    let stand = all_stand faults store c.args.plan.now c.args.owner.now.seen c.args.callers.keeper.board ws.items r.1.watchers.items count c.requires.ready x.watched in
-    record {
-      board = subst (λ (l : List (WatcherState _)). All (StandsAt r.0.board) l) (sym c.as_slice.ensures.value) (subst (λ (b : BoardId). All (StandsAt b) r.1.watchers.items) (sym x.kept.refreshes.board) stand);
-    }
 
 pub finish-requires-clause-store : goal.finish-requires-clause-store
 finish-requires-clause-store g c κs within =
@@ -74,145 +89,6 @@ finish-requires-clause-hold g c κs within =
     subst (λ (k : KeeperState). AllHold f seen k.all) (sym c.meet_all.ensures.same)
     (c.refreshes_stay.ensures f r.1.keeping.log seen r.0.all c.end_idle.ensures.begins
     (subst (λ (t : StoreState). AllHold t.fixed r.1.keeping.log r.0.all) (kept.idles.goes_on.store ∙ c.requires.keeping.of_store) kept.may.hold))
-
-pub finish-requires-clause-done : goal.finish-requires-clause-done
-finish-requires-clause-done g c κs within =
-    let faults = g.M.Door.Door.faults in
-    let store = c.args.shared.now in
-    let before = c.args.owner.now.seen in
-    let seen = c.end_idle.new.owner.seen in
-    let board = c.args.callers.keeper.board in
-    let ws = c.args.callers.crew.watchers in
-    let r = c.work_beside-keeper.result in
-    let x = c.work_beside-keeper.ensures in
-    let kept = x.kept.refreshes in
-    let law = c.board_reads_tell.ensures in
-    let count : length r.1.watchers.items ≡ length ws.items = omega (arith, x.count, ws.ok.0, r.1.watchers.ok.0) in
-    let from = subst (λ (l : Entries). Begins l r.1.keeping.log) c.requires.keeping.log kept.idles.goes_on.begins in
-    let hold = subst (λ (t : StoreState). AllHold t.fixed r.1.keeping.log r.0.all) (kept.idles.goes_on.store ∙ c.requires.keeping.of_store) kept.may.hold in
-    let met = subst (λ (l : List (WatcherState _)). All (HasMet r.0.all) l) c.as_slice.ensures.value c.meet_all.ensures.met in
-    subst (λ (b : BoardId). All (IsDoneWatching faults store seen b) r.1.watchers.items) (sym (ap (λ (k : KeeperState). k.board) c.meet_all.ensures.same ∙ kept.board))
-    (all_done faults store law.tell board before r.1.keeping.log seen (some_created before c.requires.opened.created) from c.end_idle.ensures.begins r.0.all hold c.args.plan.now ws.items r.1.watchers.items count c.requires.ready x.watched met)
-
-pub end_watchers-later-requires-clause-endable : goal.end_watchers-later-requires-clause-endable
-end_watchers-later-requires-clause-endable g c =
-    let faults = g.M.Door.Door.faults in
-    let store = c.args.shared.now in
-    let before = c.args.owner.now.seen in
-    let seen = c.end_idle.new.owner.seen in
-    let board = c.args.callers.keeper.board in
-    let ws = c.args.callers.crew.watchers in
-    let r = c.work_beside-keeper.result in
-    let x = c.work_beside-keeper.ensures in
-    let kept = x.kept.refreshes in
-    let law = c.board_reads_tell.ensures in
-    let count : length r.1.watchers.items ≡ length ws.items = omega (arith, x.count, ws.ok.0, r.1.watchers.ok.0) in
-    let from = subst (λ (l : Entries). Begins l r.1.keeping.log) c.requires.keeping.log kept.idles.goes_on.begins in
-    let hold = subst (λ (t : StoreState). AllHold t.fixed r.1.keeping.log r.0.all) (kept.idles.goes_on.store ∙ c.requires.keeping.of_store) kept.may.hold in
-    let met = subst (λ (l : List (WatcherState _)). All (HasMet r.0.all) l) c.as_slice.ensures.value c.meet_all.ensures.met in
-    all_done_end faults store seen board r.1.watchers.items
-    (all_done faults store law.tell board before r.1.keeping.log seen (some_created before c.requires.opened.created) from c.end_idle.ensures.begins r.0.all hold c.args.plan.now ws.items r.1.watchers.items count c.requires.ready x.watched met)
-
-pub returns-in-Ok-clause-ends : goal.returns-in-Ok-clause-ends
-returns-in-Ok-clause-ends g c =
-    let are = c.entries_are_events.ensures in
-    let stay = c.loads_close.ensures.own in
-    let plan = c.args.plan.now in
-    let f = c.args.shared.now.fixed in
-    let first = c.args.owner.now in
-    let one = c.end_session.new.owner in
-    let two = c.end_idle.new.owner in
-    let x = c.work_beside-keeper.ensures in
-    let r = c.work_beside-keeper.result in
-    let s = c.args.callers.crew.writer in
-    let s' = r.1.writer in
-    let e = c.end_session.ensures in
-    let caller : s'.caller ≡ 2 = x.written.goes_on.caller ∙ c.requires.writer.caller in
-    let took = subst (λ (n : ℕ). TookBack n s'.log first one) caller (took c.args.shared.now s'.caller s'.log first one e.counts e.begins e.own e.before e.owner) in
-    let fresh = none_by are first.seen 2 c.requires.owner.log.tags (subst (λ (l : Entries). entries_by 2 l ≡ []) c.requires.writer.log (subst (λ (n : ℕ). entries_by n s.log ≡ []) c.requires.writer.caller c.requires.writer.none)) in
-    let fixed = ap (λ (t : StoreState). t.fixed) c.requires.writer.of_store in
-    ends_by_finish are stay plan f s s' r.2 x.written.ends first one took c.requires.opened c.requires.writer.log fresh fixed (both_done r.2 r.3 c.in-Ok.field-0 (sym c.and.ensures ∙ c.in-Ok.is)) two c.finish.new.owner c.end_idle.ensures.sessions.leaves
-    c.finish.result (subst (λ (n : ℕ). Finishes f n c.finish.result two c.finish.new.owner) (x.count ∙ c.requires.count) c.finish.ensures.finishes)
-
-pub returns-in-Err-clause-ends : goal.returns-in-Err-clause-ends
-returns-in-Err-clause-ends g c =
-    let are = c.entries_are_events.ensures in
-    let stay = c.loads_close.ensures.own in
-    let plan = c.args.plan.now in
-    let f = c.args.shared.now.fixed in
-    let first = c.args.owner.now in
-    let one = c.end_session.new.owner in
-    let two = c.end_idle.new.owner in
-    let x = c.work_beside-keeper.ensures in
-    let r = c.work_beside-keeper.result in
-    let s = c.args.callers.crew.writer in
-    let s' = r.1.writer in
-    let e = c.end_session.ensures in
-    let caller : s'.caller ≡ 2 = x.written.goes_on.caller ∙ c.requires.writer.caller in
-    let took = subst (λ (n : ℕ). TookBack n s'.log first one) caller (took c.args.shared.now s'.caller s'.log first one e.counts e.begins e.own e.before e.owner) in
-    let fresh = none_by are first.seen 2 c.requires.owner.log.tags (subst (λ (l : Entries). entries_by 2 l ≡ []) c.requires.writer.log (subst (λ (n : ℕ). entries_by n s.log ≡ []) c.requires.writer.caller c.requires.writer.none)) in
-    let k = r.1.keeping in
-    let last = c.end_watchers-later.new.owner in
-    let later = c.end_watchers-later.ensures.sessions.leaves in
-    let from = subst (λ (l : Entries). Begins l k.log) c.requires.keeping.log x.kept.refreshes.idles.goes_on.begins in
-    let to = begins_both k.log two.seen last.seen c.end_idle.ensures.begins later.comes.begins in
-    let fixed = ap (λ (t : StoreState). t.fixed) c.requires.writer.of_store in
-    ends_early are stay plan f s s' k r.2 r.3 x.written.ends first one last took c.requires.opened c.requires.writer.log fresh fixed (leaves_both one two last c.end_idle.ensures.sessions.leaves later) from to x.kept.hindered
-    c.in-Err.fault (sym c.and.ensures ∙ c.in-Err.is)
-
-pub returns-in-Ok-clause-noted : goal.returns-in-Ok-clause-noted
-returns-in-Ok-clause-noted g c =
-    let faults = g.M.Door.Door.faults in
-    let plan = c.args.plan.now in
-    let store = c.args.shared.now in
-    let before = c.args.owner.now.seen in
-    let two = c.end_idle.new.owner in
-    let last = c.finish.new.owner in
-    let ws = c.args.callers.crew.watchers in
-    let r = c.work_beside-keeper.result in
-    let x = c.work_beside-keeper.ensures in
-    let k = r.1.keeping in
-    let kept = x.kept.refreshes in
-    let law = c.board_reads_tell.ensures in
-    let count : length r.1.watchers.items ≡ length ws.items = omega (arith, x.count, ws.ok.0, r.1.watchers.ok.0) in
-    let readers : length r.1.watchers.items ≡ plan.readers = omega (arith, r.1.watchers.ok.0, x.count, c.requires.count) in
-    let from = subst (λ (l : Entries). Begins l k.log) c.requires.keeping.log kept.idles.goes_on.begins in
-    let hold = subst (λ (t : StoreState). AllHold t.fixed k.log r.0.all) (kept.idles.goes_on.store ∙ c.requires.keeping.of_store) kept.may.hold in
-    let met = subst (λ (l : List (WatcherState _)). All (HasMet r.0.all) l) c.as_slice.ensures.value c.meet_all.ensures.met in
-    let refreshed = kept_done r.2 r.3 c.in-Ok.field-0 _ (sym c.and.ensures ∙ c.in-Ok.is) x.kept.count in
-    let notes = subst (λ (l : KeeperState). IfOk c.finish.result (λ done. NotesOf l.all r.1.watchers.items last.seen done.0.versions done.1)) c.meet_all.ensures.same c.finish.ensures.noted in
-    notes_seen plan store.fixed (vec_len r.1.watchers) two last r.0.all r.1.watchers.items (omega (arith, refreshed, ap (λ (l : List Refresh). length l) c.requires.board.1)) kept.may.of_one
-    (λ more. c.refreshes_stay.ensures store.fixed k.log last.seen r.0.all (begins_both k.log two.seen last.seen c.end_idle.ensures.begins more) hold)
-    (λ more list ended.
-    subst (λ (n : ℕ). HaveNoted (IsPieceSeen store.fixed last.seen) plan.ops n list) readers
-    (all_read faults store law.tell c.args.callers.keeper.board before k.log last.seen (some_created before c.requires.opened.created) from (begins_both k.log two.seen last.seen c.end_idle.ensures.begins more) r.0.all hold plan ws.items r.1.watchers.items count c.requires.ready x.watched met list ended))
-    c.finish.result c.finish.ensures.finishes notes
-
-pub returns-in-Ok-clause-lent : goal.returns-in-Ok-clause-lent
-returns-in-Ok-clause-lent g c =
-    let m = g.M.DoorMaker in
-    let p = c.args.shared.now.providers in
-    let n = c.args.plan.now.readers in
-    let mid = c.end_idle.new.maker in
-    let last = c.finish.new.doors in
-    let count : vec_len c.work_beside-keeper.result.1.watchers ≡ n = c.work_beside-keeper.ensures.count ∙ c.requires.count in
-    crew_told m.hands_out m.takes_back p n c.args.doors.now c.end_session.new.maker mid last c.end_session.ensures.taken_back
-    (taken m.is_true m.makes m.hands_out m.takes_back c.args.shared.now c.end_session.new.owner c.end_idle.new.owner c.end_session.new.maker mid c.end_idle.ensures.sessions)
-    c.finish.result
-    (subst (λ (k : ℕ). EndDoors m.hands_out m.takes_back p k mid last c.finish.result) count c.finish.ensures.lent)
-
-pub returns-in-Err-clause-lent : goal.returns-in-Err-clause-lent
-returns-in-Err-clause-lent g c =
-    let m = g.M.DoorMaker in
-    let p = c.args.shared.now.providers in
-    let n = c.args.plan.now.readers in
-    let first = c.args.doors.now in
-    let mid = c.end_idle.new.maker in
-    let last = c.end_watchers-later.new.maker in
-    let count : vec_len c.work_beside-keeper.result.1.watchers ≡ n = c.work_beside-keeper.ensures.count ∙ c.requires.count in
-    crew_ended m.hands_out m.takes_back p n first c.end_session.new.maker mid last c.end_session.ensures.taken_back
-    (taken m.is_true m.makes m.hands_out m.takes_back c.args.shared.now c.end_session.new.owner c.end_idle.new.owner c.end_session.new.maker mid c.end_idle.ensures.sessions)
-    (subst (λ (k : ℕ). Traffic m.hands_out m.takes_back 0 (k * p) mid last) count c.end_watchers-later.ensures.sessions.traffic)
 
 pub finish-requires-clause-passes_left : goal.finish-requires-clause-passes_left
 finish-requires-clause-passes_left g c κs within =
@@ -259,22 +135,94 @@ returns-in-Err-clause-doors g c =
 pub finish-requires-clause-true_doors : goal.finish-requires-clause-true_doors
 finish-requires-clause-true_doors g c κs within = c.end_idle.ensures.sessions.maker.truth_stays.0 (c.end_session.ensures.truth_stays.0 c.requires.true_doors)
 
-pub returns-in-Ok-clause-maker : goal.returns-in-Ok-clause-maker
-returns-in-Ok-clause-maker g c =
+pub meet_all-requires : goal.meet_all-requires
+meet_all-requires g c =
+    let ws = c.args.callers.crew.watchers in
+    let r = c.work_beside-keeper.result in
+    let x = c.work_beside-keeper.ensures in
+    let count : length r.1.watchers.items ≡ length ws.items = omega (arith, x.count, ws.ok.0, r.1.watchers.ok.0) in
+    let stand = all_stand g.M.Door.Door.faults c.args.shared.now c.args.plan.now c.args.owner.now.seen c.args.callers.keeper.board ws.items r.1.watchers.items count c.requires.ready x.watched in
+    record {
+      board = subst (λ (l : List (WatcherState _)). All (StandsAt r.0.board) l) (sym c.as_slice.ensures.value) (subst (λ (b : BoardId). All (StandsAt b) r.1.watchers.items) (sym x.kept.refreshes.board) stand);
+    }
+
+pub finish-requires-clause-done : goal.finish-requires-clause-done
+finish-requires-clause-done g c κs within =
+    subst (λ (b : BoardId). All (IsDoneWatching g.M.Door.Door.faults c.args.shared.now c.end_idle.new.owner.seen b) c.work_beside-keeper.result.1.watchers.items)
+    (sym (ap (λ (k : KeeperState). k.board) c.meet_all.ensures.same ∙ c.work_beside-keeper.ensures.kept.refreshes.board))
+    (all_done g.M.Door.Door.faults c.args.shared.now c.board_reads_tell.ensures.tell (read_on g (goal.at.finish-requires-clause-done g c).After-end_idle) c.end_idle.ensures.begins)
+
+pub end_watchers-later-requires-clause-endable : goal.end_watchers-later-requires-clause-endable
+end_watchers-later-requires-clause-endable g c =
+    let faults = g.M.Door.Door.faults in
+    let store = c.args.shared.now in
+    all_done_end faults store c.end_idle.new.owner.seen c.args.callers.keeper.board c.work_beside-keeper.result.1.watchers.items
+    (all_done faults store c.board_reads_tell.ensures.tell (read_on g (goal.at.end_watchers-later-requires-clause-endable g c).After-end_idle) c.end_idle.ensures.begins)
+
+pub returns-in-Ok-clause-ends : goal.returns-in-Ok-clause-ends
+returns-in-Ok-clause-ends g c =
+    let two = c.end_idle.new.owner in
+    let r = c.work_beside-keeper.result in
+    ends_by_finish c.entries_are_events.ensures c.loads_close.ensures.own (writer_back g (goal.at.returns-in-Ok-clause-ends g c).After-end_idle) (both_done r.2 r.3 c.in-Ok.field-0 (sym c.and.ensures ∙ c.in-Ok.is)) two
+    c.finish.new.owner c.end_idle.ensures.sessions.leaves c.finish.result
+    (subst (λ (n : ℕ). Finishes c.args.shared.now.fixed n c.finish.result two c.finish.new.owner) (c.work_beside-keeper.ensures.count ∙ c.requires.count) c.finish.ensures.finishes)
+
+pub returns-in-Err-clause-ends : goal.returns-in-Err-clause-ends
+returns-in-Err-clause-ends g c =
+    let at = (goal.at.returns-in-Err-clause-ends g c).After-end_idle in
+    let x = c.work_beside-keeper.ensures in
+    let k = c.work_beside-keeper.result.1.keeping in
+    let last = c.end_watchers-later.new.owner in
+    let later = c.end_watchers-later.ensures.sessions.leaves in
+    ends_early c.entries_are_events.ensures c.loads_close.ensures.own (writer_back g at) k c.work_beside-keeper.result.3 last (leaves_both c.end_idle.ensures.sessions.leaves later) (read_on g at).from
+    (begins_both k.log c.end_idle.new.owner.seen last.seen c.end_idle.ensures.begins later.comes.begins) x.kept.hindered c.in-Err.fault (sym c.and.ensures ∙ c.in-Err.is)
+
+pub returns-in-Ok-clause-noted : goal.returns-in-Ok-clause-noted
+returns-in-Ok-clause-noted g c =
+    let on = read_on g (goal.at.returns-in-Ok-clause-noted g c).After-end_idle in
+    let plan = c.args.plan.now in
+    let store = c.args.shared.now in
+    let two = c.end_idle.new.owner in
+    let last = c.finish.new.owner in
+    let r = c.work_beside-keeper.result in
+    let x = c.work_beside-keeper.ensures in
+    let readers : length r.1.watchers.items ≡ plan.readers = omega (arith, r.1.watchers.ok.0, x.count, c.requires.count) in
+    let refreshed = kept_done r.2 r.3 c.in-Ok.field-0 _ (sym c.and.ensures ∙ c.in-Ok.is) x.kept.count in
+    let notes = subst (λ (l : KeeperState). IfOk c.finish.result (λ done. NotesOf l.all r.1.watchers.items last.seen done.0.versions done.1)) c.meet_all.ensures.same c.finish.ensures.noted in
+    let seen = λ (more : Begins two.seen last.seen). begins_both r.1.keeping.log two.seen last.seen c.end_idle.ensures.begins more in
+    notes_seen plan store.fixed (vec_len r.1.watchers) two last r.0.all r.1.watchers.items (omega (arith, refreshed, ap (λ (l : List Refresh). length l) c.requires.board.1)) x.kept.refreshes.may.of_one
+    (λ more. c.refreshes_stay.ensures store.fixed r.1.keeping.log last.seen r.0.all (seen more) on.hold)
+    (λ more list ended.
+    subst (λ (n : ℕ). HaveNoted (IsPieceSeen store.fixed last.seen) plan.ops n list) readers (all_read g.M.Door.Door.faults store c.board_reads_tell.ensures.tell on (seen more) list ended))
+    c.finish.result c.finish.ensures.finishes notes
+
+pub returns-in-Ok-clause-lent : goal.returns-in-Ok-clause-lent
+returns-in-Ok-clause-lent g c =
     let m = g.M.DoorMaker in
+    let p = c.args.shared.now.providers in
+    let count : vec_len c.work_beside-keeper.result.1.watchers ≡ c.args.plan.now.readers = c.work_beside-keeper.ensures.count ∙ c.requires.count in
+    crew_told m.hands_out m.takes_back p c.args.plan.now.readers c.args.doors.now c.end_session.new.maker c.end_idle.new.maker c.finish.new.doors c.end_session.ensures.taken_back (taken c.end_idle.ensures.sessions)
+    c.finish.result
+    (subst (λ (k : ℕ). EndDoors m.hands_out m.takes_back p k c.end_idle.new.maker c.finish.new.doors c.finish.result) count c.finish.ensures.lent)
+
+pub returns-in-Err-clause-lent : goal.returns-in-Err-clause-lent
+returns-in-Err-clause-lent g c =
+    let m = g.M.DoorMaker in
+    let p = c.args.shared.now.providers in
+    let mid = c.end_idle.new.maker in
+    let last = c.end_watchers-later.new.maker in
+    let count : vec_len c.work_beside-keeper.result.1.watchers ≡ c.args.plan.now.readers = c.work_beside-keeper.ensures.count ∙ c.requires.count in
+    crew_ended m.hands_out m.takes_back p c.args.plan.now.readers c.args.doors.now c.end_session.new.maker mid last c.end_session.ensures.taken_back (taken c.end_idle.ensures.sessions)
+    (subst (λ (k : ℕ). Traffic m.hands_out m.takes_back 0 (k * p) mid last) count c.end_watchers-later.ensures.sessions.traffic)
+
+-- the maker, until the writer's and the keeper's sessions ended
+ended : (g : Over) (c : After-end_idle g) → MakesAsBefore g.M.DoorMaker.is_true g.M.DoorMaker.makes c.args.doors.now c.end_idle.new.maker
+ended g c =
     let e = c.end_session.ensures in
-    let first = c.args.doors.now in
-    let one = c.end_session.new.maker in
-    let two = c.end_idle.new.maker in
-    let ended = makes_both m.is_true m.makes first one two (makes_so m.is_true m.makes first one e.truth_stays e.plan_stays) c.end_idle.ensures.sessions.maker in
-    makes_both m.is_true m.makes first two c.finish.new.doors ended c.finish.ensures.maker
+    makes_both (makes_so g.M.DoorMaker.is_true g.M.DoorMaker.makes c.args.doors.now c.end_session.new.maker e.truth_stays e.plan_stays) c.end_idle.ensures.sessions.maker
+
+pub returns-in-Ok-clause-maker : goal.returns-in-Ok-clause-maker
+returns-in-Ok-clause-maker g c = makes_both (ended g (goal.at.returns-in-Ok-clause-maker g c).After-end_idle) c.finish.ensures.maker
 
 pub returns-in-Err-clause-maker : goal.returns-in-Err-clause-maker
-returns-in-Err-clause-maker g c =
-    let m = g.M.DoorMaker in
-    let e = c.end_session.ensures in
-    let first = c.args.doors.now in
-    let one = c.end_session.new.maker in
-    let two = c.end_idle.new.maker in
-    let ended = makes_both m.is_true m.makes first one two (makes_so m.is_true m.makes first one e.truth_stays e.plan_stays) c.end_idle.ensures.sessions.maker in
-    makes_both m.is_true m.makes first two c.end_watchers-later.new.maker ended c.end_watchers-later.ensures.sessions.maker
+returns-in-Err-clause-maker g c = makes_both (ended g (goal.at.returns-in-Err-clause-maker g c).After-end_idle) c.end_watchers-later.ensures.sessions.maker

@@ -4,10 +4,10 @@ use Rattle.blob_model.specs.declared.call.Place.TheVariants.{Append}
 use Rattle.request_form.specs.Replies.{page_faults}
 use Rattle.client_session.specs.Sessions.{session_of}
 use Rattle.client_session.proofs.Waiting.{goes_both}
-use Rattle.update_work.specs.Updates.{IsUpdated, IsStopped}
-use Rattle.update_work.specs.Left.{left_faults}
-use Rattle.update_work.proofs.Updates.{rose_both, rose_less}
-use Rattle.watch_run.proofs.Written.{wrote_none, wrote_more, stopped_writing}
+use Rattle.workload_run.specs.Updates.{IsUpdated, IsStopped}
+use Rattle.workload_run.specs.Left.{left_faults}
+use Rattle.workload_run.proofs.Updates.{rose_both, rose_less}
+use Rattle.watch_run.proofs.Works.{wrote_none, wrote_more, stopped_writing}
 use Rattle.watch_run.proofs.writing.write_all.Goals as goal
 
 pub ops-init : goal.ops-init

@@ -1,4 +1,4 @@
-use Rattle.workload_law.proofs.GoingOn.{opening_legal, refused_when_full, loads_underway, beginnings_underway, both_there, stopped_begun}
+use Rattle.workload_law.proofs.Loads.{opening_legal, refused_when_full, loads_underway, beginnings_underway, both_there, stopped_begun}
 use Rattle.workload_law.proofs.laws.loads_go_on.Goals as goal
 
 pub returns-clause-opening : goal.returns-clause-opening

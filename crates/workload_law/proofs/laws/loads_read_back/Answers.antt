@@ -1,4 +1,4 @@
-use Rattle.workload_law.proofs.ReadBack.{read_back}
+use Rattle.workload_law.proofs.Loads.{read_back}
 use Rattle.workload_law.proofs.laws.loads_read_back.Goals as goal
 
 pub returns : goal.returns

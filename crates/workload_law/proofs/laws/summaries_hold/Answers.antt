@@ -1,4 +1,4 @@
-use Rattle.workload_law.proofs.Summing.{summary_holds}
+use Rattle.workload_law.proofs.Loads.{summary_holds}
 use Rattle.workload_law.proofs.laws.summaries_hold.Goals as goal
 
 pub returns : goal.returns

@@ -1,4 +1,4 @@
-use Rattle.workload_law.proofs.WatchPieces.{version_of, pieces_told}
+use Rattle.workload_law.proofs.Watching.{version_of, pieces_told}
 use Rattle.workload_law.proofs.watch_laws.pieces_are_told.Goals as goal
 
 pub returns-clause-sizes : goal.returns-clause-sizes

@@ -1,6 +1,4 @@
-use Rattle.workload_law.proofs.WatchWritten.{blob_there, blob_after}
-use Rattle.workload_law.proofs.WatchTogether.{first_is, history_is}
-use Rattle.workload_law.proofs.WatchGoing.{nothing_else_hinders}
+use Rattle.workload_law.proofs.Watching.{first_is, history_is, blob_there, blob_after, nothing_else_hinders}
 use Rattle.workload_law.proofs.watch_laws.watches_close.Goals as goal
 
 pub returns-clause-together : goal.returns-clause-together

@@ -10,7 +10,7 @@ use Rattle.version_manager.specs.Log.{IsLog, tagged, events}
 use Rattle.workload_law.specs.declared.plan.LoadPlan.{LoadPlan}
 use Rattle.workload_law.specs.declared.plan.Summary.{Summary}
 use Rattle.workload_run.specs.Stages.{ClosesAs, TellsLoad}
-use Rattle.update_work.proofs.Returns.{closed_history, events_tagged}
+use Rattle.workload_run.proofs.Returns.{closed_history, events_tagged}
 use Rattle.workload_run.proofs.loading.load.Goals as goal
 
 -- what is known of the closed store's history

@@ -1,8 +1,31 @@
-use Rattle.std.proofs.Common.{◌*◌, arith}
+use Rattle.std.proofs.Common.{◌≡◌, ◌↔◌, ℕ, suc, ◌+◌, ◌*◌, arith}
+use Rattle.std.proofs.Math.Nat.{suc-mul}
 use Rattle.page_store.proofs.CallsLemmas.{all_came_back_join}
-use Rattle.workload_run.proofs.Lents.{three_lent}
-use Rattle.workload_run.proofs.Endings.{closes_unopened, closes_stopped, closes_looked, closes_unseen}
+use Rattle.page_store.specs.Calls.{Traffic}
+use Rattle.store_sessions.proofs.Traffics.{traffic_both}
+use Rattle.workload_run.proofs.Stores.{closes_unopened, closes_stopped, closes_looked, closes_unseen}
 use Rattle.workload_run.proofs.loading.run_load.Goals as goal
+
+both : {A B C : Type 0} → (A ↔ B) → (B ↔ C) → (A ↔ C)
+both a b = (λ x. b.0 (a.0 x), λ z. a.1 (b.1 z))
+
+-- ---- the doors of the three stages
+-- the first session's, the workers', and the last session's
+doors_of_all : (p workers : ℕ) → p + workers * p + p ≡ (workers + 2) * p
+doors_of_all p workers =
+    let e : workers + 2 ≡ suc (suc workers) = omega arith in
+    let one = suc-mul workers p in
+    let two = suc-mul (suc workers) p in
+    rw e (omega (arith, one, two))
+
+three_lent : {M : Type 0} (hands_out takes_back : M → M → Type 0) (p workers : ℕ) (first opened worked last : M) → Traffic hands_out takes_back p p first opened
+    → Traffic hands_out takes_back (workers * p) (workers * p) opened worked → Traffic hands_out takes_back p p worked last
+    → Traffic hands_out takes_back ((workers + 2) * p) ((workers + 2) * p) first last
+three_lent hands_out takes_back p workers first opened worked last a b c =
+    let two = p + workers * p in
+    let all = doors_of_all p workers in
+    traffic_both hands_out takes_back two two p p ((workers + 2) * p) ((workers + 2) * p) first worked last all all
+    (traffic_both hands_out takes_back p p (workers * p) (workers * p) two two first opened worked (omega arith) (omega arith) a b) c
 
 pub returns-in-Err-clause-closes : goal.returns-in-Err-clause-closes
 returns-in-Err-clause-closes g c =
@@ -66,41 +89,19 @@ returns-in-Err-look_back-clause-doors g c = λ less.
     omega (arith, first, later, last)
 
 pub returns-in-Err-work_all-clause-truth_stays : goal.returns-in-Err-work_all-clause-truth_stays
-returns-in-Err-work_all-clause-truth_stays g c =
-    let a = c.open_store.ensures.truth_stays in
-    let b = c.work_all.ensures.truth_stays in
-    (λ t. b.0 (a.0 t), λ t. a.1 (b.1 t))
+returns-in-Err-work_all-clause-truth_stays g c = both c.open_store.ensures.truth_stays c.work_all.ensures.truth_stays
 
 pub returns-in-Err-work_all-clause-plan_stays : goal.returns-in-Err-work_all-clause-plan_stays
-returns-in-Err-work_all-clause-plan_stays g c = λ n door.
-    let a = c.open_store.ensures.plan_stays n door in
-    let b = c.work_all.ensures.plan_stays n door in
-    (λ h. b.0 (a.0 h), λ h. a.1 (b.1 h))
+returns-in-Err-work_all-clause-plan_stays g c = λ n door. both (c.open_store.ensures.plan_stays n door) (c.work_all.ensures.plan_stays n door)
 
 pub returns-in-Ok-look_back-clause-truth_stays : goal.returns-in-Ok-look_back-clause-truth_stays
-returns-in-Ok-look_back-clause-truth_stays g c =
-    let a = c.open_store.ensures.truth_stays in
-    let b = c.work_all.ensures.truth_stays in
-    let d = c.look_back.ensures.truth_stays in
-    (λ t. d.0 (b.0 (a.0 t)), λ t. a.1 (b.1 (d.1 t)))
+returns-in-Ok-look_back-clause-truth_stays g c = both c.open_store.ensures.truth_stays (both c.work_all.ensures.truth_stays c.look_back.ensures.truth_stays)
 
 pub returns-in-Ok-look_back-clause-plan_stays : goal.returns-in-Ok-look_back-clause-plan_stays
-returns-in-Ok-look_back-clause-plan_stays g c = λ n door.
-    let a = c.open_store.ensures.plan_stays n door in
-    let b = c.work_all.ensures.plan_stays n door in
-    let d = c.look_back.ensures.plan_stays n door in
-    (λ h. d.0 (b.0 (a.0 h)), λ h. a.1 (b.1 (d.1 h)))
+returns-in-Ok-look_back-clause-plan_stays g c = λ n door. both (c.open_store.ensures.plan_stays n door) (both (c.work_all.ensures.plan_stays n door) (c.look_back.ensures.plan_stays n door))
 
 pub returns-in-Err-look_back-clause-truth_stays : goal.returns-in-Err-look_back-clause-truth_stays
-returns-in-Err-look_back-clause-truth_stays g c =
-    let a = c.open_store.ensures.truth_stays in
-    let b = c.work_all.ensures.truth_stays in
-    let d = c.look_back.ensures.truth_stays in
-    (λ t. d.0 (b.0 (a.0 t)), λ t. a.1 (b.1 (d.1 t)))
+returns-in-Err-look_back-clause-truth_stays g c = both c.open_store.ensures.truth_stays (both c.work_all.ensures.truth_stays c.look_back.ensures.truth_stays)
 
 pub returns-in-Err-look_back-clause-plan_stays : goal.returns-in-Err-look_back-clause-plan_stays
-returns-in-Err-look_back-clause-plan_stays g c = λ n door.
-    let a = c.open_store.ensures.plan_stays n door in
-    let b = c.work_all.ensures.plan_stays n door in
-    let d = c.look_back.ensures.plan_stays n door in
-    (λ h. d.0 (b.0 (a.0 h)), λ h. a.1 (b.1 (d.1 h)))
+returns-in-Err-look_back-clause-plan_stays g c = λ n door. both (c.open_store.ensures.plan_stays n door) (both (c.work_all.ensures.plan_stays n door) (c.look_back.ensures.plan_stays n door))

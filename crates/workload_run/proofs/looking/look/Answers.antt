@@ -4,7 +4,7 @@ use Rattle.request_form.specs.Answers.{Answers}
 use Rattle.request_form.specs.declared.form.Reply.{Reply}
 use Rattle.request_form.specs.declared.form.Request.TheVariants as Requests
 use Rattle.client_session.specs.Sessions.{session_of}
-use Rattle.workload_run.proofs.Summaries.{look_missing, look_read, look_unread}
+use Rattle.workload_run.proofs.Looks.{look_missing, look_read, look_unread}
 use Rattle.workload_run.proofs.looking.look.Goals as goal
 
 pub returns-in-Ok-content_of-clause-ends : goal.returns-in-Ok-content_of-clause-ends

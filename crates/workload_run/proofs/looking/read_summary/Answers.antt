@@ -3,7 +3,7 @@ use Rattle.std.specs.Prelude.{Ok}
 use Rattle.client_session.specs.Sessions.{session_of}
 use Rattle.workload_law.specs.declared.plan.Summary.{Summary}
 use Rattle.workload_run.specs.Look.{SummaryEnds}
-use Rattle.workload_run.proofs.Summaries.{no_log, no_grid, summed}
+use Rattle.workload_run.proofs.Looks.{no_log, no_grid, summed}
 use Rattle.workload_run.proofs.looking.read_summary.Goals as goal
 
 pub returns-in-Err-clause-ends : goal.returns-in-Err-clause-ends

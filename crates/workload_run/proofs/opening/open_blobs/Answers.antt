@@ -4,10 +4,10 @@ use Rattle.blob_model.specs.declared.call.Place.TheVariants.{Append}
 use Rattle.request_form.specs.Replies.{page_faults}
 use Rattle.client_session.specs.Sessions.{session_of}
 use Rattle.client_session.proofs.Waiting.{goes_both}
-use Rattle.update_work.specs.Updates.{IsUpdated, IsStopped}
-use Rattle.update_work.specs.Left.{left_faults}
-use Rattle.update_work.proofs.Updates.{rose_both, rose_less}
-use Rattle.workload_run.proofs.Openings.{made_one, made_both, opened, no_log, no_grid, no_zeros}
+use Rattle.workload_run.specs.Updates.{IsUpdated, IsStopped}
+use Rattle.workload_run.specs.Left.{left_faults}
+use Rattle.workload_run.proofs.Updates.{rose_both, rose_less}
+use Rattle.workload_run.proofs.Operations.{made_one, made_both, opened, no_log, no_grid, no_zeros}
 use Rattle.workload_run.proofs.opening.open_blobs.Goals as goal
 
 pub returns-in-Err-clause-ends : goal.returns-in-Err-clause-ends

@@ -5,9 +5,9 @@ use Rattle.request_form.specs.Replies.{page_faults}
 use Rattle.client_session.specs.Sessions.{session_of}
 use Rattle.client_session.proofs.Waiting.{goes_both}
 use Rattle.workload_law.specs.Pieces.{cell_of}
-use Rattle.update_work.specs.Updates.{IsUpdated, IsStopped}
-use Rattle.update_work.specs.Left.{left_faults}
-use Rattle.update_work.proofs.Updates.{rose_both, rose_less}
+use Rattle.workload_run.specs.Updates.{IsUpdated, IsStopped}
+use Rattle.workload_run.specs.Left.{left_faults}
+use Rattle.workload_run.proofs.Updates.{rose_both, rose_less}
 use Rattle.workload_run.proofs.Operations.{operated, stopped_in_record, stopped_in_cell}
 use Rattle.workload_run.proofs.working.operate.Goals as goal
 

@@ -3,7 +3,7 @@ use Rattle.std.specs.Prelude.{sum_by}
 use Rattle.request_form.specs.Replies.{page_faults}
 use Rattle.client_session.specs.Sessions.{session_of}
 use Rattle.client_session.proofs.Waiting.{goes_both}
-use Rattle.update_work.proofs.Updates.{rose_both}
+use Rattle.workload_run.proofs.Updates.{rose_both}
 use Rattle.workload_run.specs.Work.{HasWorked}
 use Rattle.workload_run.proofs.Operations.{worked_start, worked_more, ended_early}
 use Rattle.workload_run.proofs.working.work.Goals as goal

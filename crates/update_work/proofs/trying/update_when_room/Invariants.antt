@@ -1,5 +1,0 @@
-use Rattle.update_work.specs.Updates.{Retries}
-use Rattle.update_work.proofs.trying.update_when_room.Given as goal
-
-abbrev pub invariant-tries : goal.invariant-tries
-invariant-tries g l = Retries g.D.Door.faults l.fn.session l.session

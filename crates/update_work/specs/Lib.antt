@@ -1,5 +1,0 @@
-pub mod Updates
-pub mod Left
-pub mod Making
-pub mod Callers
-pub mod Ending
