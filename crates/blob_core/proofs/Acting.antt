@@ -13,16 +13,15 @@ use Rattle.tree_geom.specs.declared.touch.Touch.{Touch}
 use Rattle.tree_geom.specs.declared.node.Node.{Node}
 use Rattle.tree_geom.specs.declared.node.NodeKey.{NodeKey}
 use Rattle.tree_geom.specs.Geometry.{Meets, page_range}
-use Rattle.range_log.specs.Depths.{fold_number}
 use Rattle.range_log.specs.Log.{HasNode, touch_at}
 use Rattle.range_log.specs.Extents.{extent_at}
 use Rattle.range_log.specs.Updates.{extents, update_at}
 use Rattle.range_log.specs.Rows.{folded_of, node_of, row_keys_of}
 use Rattle.range_log.specs.Laws.{ExtentsStand, RowKeysExact}
 use Rattle.range_log.proofs.Bytes.{length-extents}
-use Rattle.blob_core.specs.World.{World, UpdateEntry, IsKnown, bytes_of_pages, AreCut, fold_at, kept_at, node_at, log_of}
-use Rattle.blob_core.specs.Woven.{woven, woven_folded}
-use Rattle.blob_core.specs.Steps.{IsAllowed, IsFolded, IsNumberedIn, RowIsThere, next_kept, over_page, folded_page, with_update, with_fold, with_node, with_node_by}
+use Rattle.blob_core.specs.World.{World, UpdateEntry, bytes_of_pages, AreCut, fold_at, kept_at, node_at, log_of}
+use Rattle.blob_core.specs.Woven.{woven}
+use Rattle.blob_core.specs.Steps.{IsAllowed, IsFolded, IsNumberedIn, RowIsThere, next_kept, over_page, folded_page, with_fold, with_node, with_node_by}
 use Rattle.blob_core.specs.Walk.{page_walk}
 use Rattle.blob_core.specs.Standing.{IsSound, Stays, WeavesRow}
 use Rattle.blob_core.specs.Acts.{IsDone, IsLogOf, IsRowOf, NotNumberedIn, LacksFold, HasFold, AreThere}
@@ -43,37 +42,25 @@ pub number_done : (p : ℕ) (w : World) (blob : ℕ) (pages : List ℕ) (b : Blo
     → IsDone p w (Moves.Assign u.caller blob u.place pages)
     (record w { store = record { limits = w.store.limits; blobs = blobs }; updates = updates })
 number_done p w blob pages b u key kept blobs updates there cut bytes taken set number beside more =
-    let R : List ℕ → Type 0 = λ l. is_refused (answer w.store u.caller (Calls.Assign blob u.place l)).1 ≡ false in
-    let ok : R (bytes_of_pages w.pages pages) = subst R bytes taken in
-    let (x, is, fits, store) = assign_done w.store u.caller blob u.place (bytes_of_pages w.pages pages) ok in
+    let all : List ℕ = bytes_of_pages w.pages pages in
+    let ok = rw bytes at taken in
+    let (x, is, fits, store) = assign_done w.store u.caller blob u.place all ok in
     let same : x ≡ b = one_value (blob_at w.store blob) x b is there in
     let of : List ℕ → Update = λ l. record { caller = u.caller; place = u.place; bytes = l } in
-    let leaves : List Blob → Store = λ l. record { limits = w.store.limits; blobs = l } in
-    let stored : leaves blobs ≡ store_from w.store (Events.Assign u.caller blob u.place (bytes_of_pages w.pages pages) ∷ []) =
-    ap leaves set
-    ∙ ap (λ (l : List ℕ). with_blob w.store blob (and_update b (of l))) bytes
-    ∙ ap (λ (y : Blob). with_blob w.store blob (and_update y (of (bytes_of_pages w.pages pages)))) (sym same)
-    ∙ sym store in
-    let entry : UpdateKey → UpdateEntry → List (UpdateKey × UpdateEntry) = λ k x. (k, x) ∷ w.updates in
-    let kepts : updates ≡ with_update p w blob pages =
-    more ∙ ap (λ (k : UpdateKey). entry k kept) number ∙ ap (λ (k : UpdateEntry). entry (record { blob = blob; version = assigned b + 1 }) k) beside ∙ sym (with_update_is p w blob pages b there) in
+    let stored : with_blob w.store blob (and_update b u) ≡ store_from w.store (Events.Assign u.caller blob u.place all ∷ []) =
+    ap (λ (l : List ℕ). with_blob w.store blob (and_update b (of l))) bytes ∙ ap (λ (y : Blob). with_blob w.store blob (and_update y (of all))) (sym same) ∙ sym store in
     let W : Store → List (UpdateKey × UpdateEntry) → World = λ s l. record w { store = s; updates = l } in
-    record {
+    rw (set, more, number, beside)
+    (record {
       allowed = (cut, ok);
-      is = ap (λ (s : Store). W s updates) stored ∙ ap (λ (l : List (UpdateKey × UpdateEntry)). W (store_from w.store (Events.Assign u.caller blob u.place (bytes_of_pages w.pages pages) ∷ [])) l) kepts;
-    }
+      is = ap (λ (s : Store). W s ((record { blob = blob; version = assigned b + 1 }, next_kept p b pages) ∷ w.updates)) stored
+          ∙ ap (W (store_from w.store (Events.Assign u.caller blob u.place all ∷ []))) (sym (with_update_is p w blob pages b there));
+    })
 
 -- ---- a node
 -- what is answered of a row
 abbrev pub IsFound : ℕ → World → ℕ → ℕ → Option Row → Type 0
 IsFound p w blob version found = MatchOption found (NotNumberedIn w blob version) (λ (r : Row). IsRowOf p w blob version r.log.items r.keys.items)
-
-pub numbered_is : (p : ℕ) (w : World) (blob version : ℕ) (b : Blob) (log : List Touch) (keys : List Range) → blob_at w.store blob ≡ Some b → IsRowOf p w blob version log keys
-    → IsNumberedIn w blob version b × IsLogOf p b log × (keys ≡ row_keys_of p (log_of p b.updates) version)
-numbered_is p w blob version b log keys there row =
-    let same : row.b ≡ b = one_value (blob_at w.store blob) row.b b row.own.there there in
-    let At : Blob → Type 0 = λ x. IsNumberedIn w blob version x × IsLogOf p x log × (keys ≡ row_keys_of p (log_of p x.updates) version) in
-    subst At same (row.own, row.touches, row.ranges)
 
 -- what stands where a version's row was found, and its blob
 pub record RowStands (p : ℕ) (w : World) (blob version : ℕ) (b : Blob) (log : List Touch) (keys : List Range) : Type 0 where
@@ -82,27 +69,25 @@ pub record RowStands (p : ℕ) (w : World) (blob version : ℕ) (b : Blob) (log 
   pub touches : IsLogOf p b log
   pub ranges : keys ≡ row_keys_of p (log_of p b.updates) version
 
-pub row_stands : (p : ℕ) (w : World) (blob version : ℕ) (b : Blob) (found : Option Row) (row : Row) → Stays p w → blob_at w.store blob ≡ Some b → IsFound p w blob version found
+pub row_stands : {p : ℕ} {w : World} {blob version : ℕ} {b : Blob} {found : Option Row} {row : Row} → Stays p w → blob_at w.store blob ≡ Some b → IsFound p w blob version found
     → found ≡ Some row → RowStands p w blob version b row.log.items row.keys.items
-row_stands p w blob version b found row stays there is same =
-    let num = numbered_is p w blob version b row.log.items row.keys.items there (subst (IsFound p w blob version) same is) in
-    record { sound = stays.blobs blob b there; own = num.0; touches = num.1; ranges = num.2 }
+row_stands {p} {w} {blob} {version} {b} {found} {row} stays there is same =
+    let r : IsRowOf p w blob version row.log.items row.keys.items = subst (IsFound p w blob version) same is in
+    let e : r.b ≡ b = one_value (blob_at w.store blob) r.b b r.own.there there in
+    record { sound = stays.blobs blob b there; own = rw e at r.own; touches = rw e at r.touches; ranges = rw e at r.ranges }
 
 -- the range has a node in the row exactly where it is among the row's ranges
 pub has_in_row : ExtentsStand → RowKeysExact → (p : ℕ) (w : World) (blob version : ℕ) (b : Blob) (log : List Touch) (keys : List Range) (r : Range) → 1 ≤ p
     → RowStands p w blob version b log keys → Contains keys r ↔ HasNode p (log_of p b.updates) version r
 has_in_row stand exact p w blob version b log keys r pos row =
-    let C : List Range → Type 0 = λ l. Contains l r ↔ HasNode p (log_of p b.updates) version r in
-    subst C (sym row.ranges)
-    (exact p version (extents b.updates) r pos (stand b.updates row.sound.replay).0 row.own.some (omega (arith, row.own.upto, length-extents b.updates)))
+    rw row.ranges (exact p version (extents b.updates) r pos (stand b.updates row.sound.replay).0 row.own.some (omega (arith, row.own.upto, length-extents b.updates)))
 
 -- a node that isn't of the row may not be put
 pub not_of_row : (p : ℕ) (w : World) (key : NodeKey) (b : Blob) → blob_at w.store key.blob ≡ Some b → ¬ HasNode p (log_of p b.updates) key.version key.range
     → ¬ IsAllowed p w (Moves.NodePut key)
 not_of_row p w key b there apart (x, own, has, folds) =
     let same : x ≡ b = one_value (blob_at w.store key.blob) x b own.there there in
-    let H : Blob → Type 0 = λ y. HasNode p (log_of p y.updates) key.version key.range in
-    apart (subst H same has)
+    apart (rw same at has)
 
 -- a page is stored anew as it is woven exactly where the row says so
 folded_here : (p : ℕ) (w : World) (blob k : ℕ) (b : Blob) (i : ℕ) → WeavesRow p w blob b k → Meets p (touch_at (log_of p b.updates) k) (page_range p i)
@@ -112,8 +97,7 @@ folded_here p w blob k b i weaves met anew = record { kept = weaves.kept; there 
 folded_means : (p : ℕ) (w : World) (blob k : ℕ) (b : Blob) (i : ℕ) → WeavesRow p w blob b k → IsFolded p w blob k b i → folded_of p (extents b.updates) k i ≡ true
 folded_means p w blob k b i weaves f =
     let same : f.kept ≡ weaves.kept = one_value (kept_at w.updates blob k) f.kept weaves.kept f.there weaves.there in
-    let F : UpdateEntry → Type 0 = λ e. woven_folded fold_number p w blob b e k i ≡ true in
-    sym (weaves.folded i) ∙ subst F same f.anew
+    sym (weaves.folded i) ∙ rw same at f.anew
 
 node_allowed : (p : ℕ) (w : World) (key : NodeKey) (b : Blob) → IsSound p w key.blob b → IsNumberedIn w key.blob key.version b → HasNode p (log_of p b.updates) key.version key.range
     → HasFold p w.folded key b → IsAllowed p w (Moves.NodePut key)
@@ -125,10 +109,9 @@ pub not_without_fold : (p : ℕ) (w : World) (key : NodeKey) (b : Blob) → IsSo
     → ¬ IsAllowed p w (Moves.NodePut key)
 not_without_fold p w key b sound there lacks (x, own, has, folds) =
     let same : x ≡ b = one_value (blob_at w.store key.blob) x b own.there there in
-    let At : Blob → Type 0 = λ y. IsNumberedIn w key.blob key.version y
-    × ((page : ℕ) → key.range ≡ page_range p page → IsFolded p w key.blob key.version y page → IsKnown (fold_at w.folded key.blob key.version page)) in
-    let of : At b = subst At same (own, folds) in
-    let (bytes, is) = of.1 lacks.page lacks.leaf (folded_here p w key.blob key.version b lacks.page (sound.weaves key.version of.0) lacks.met lacks.anew) in
+    let its : IsNumberedIn w key.blob key.version b = rw same at own in
+    let put = rw same at folds in
+    let (bytes, is) = put lacks.page lacks.leaf (folded_here p w key.blob key.version b lacks.page (sound.weaves key.version its) lacks.met lacks.anew) in
     none_some (fold_at w.folded key.blob key.version lacks.page) bytes lacks.missing is
 
 abbrev with_nodes : World → List (NodeKey × Node) → World
@@ -169,11 +152,11 @@ pub not_foldable : (p : ℕ) (w : World) (blob version page : ℕ) (b : Blob) �
     → ¬ IsAllowed p w (Moves.FoldPut blob version page)
 not_foldable p w blob version page b sound there not (x, own, folds, before) =
     let same : x ≡ b = one_value (blob_at w.store blob) x b own.there there in
-    let At : Blob → Type 0 = λ y. IsNumberedIn w blob version y × IsFolded p w blob version y page × (version - 1 ≤ published y) in
-    let of : At b = subst At same (own, folds, before) in
+    let its : IsNumberedIn w blob version b = rw same at own in
+    let anew : IsFolded p w blob version b page = rw same at folds in
     elim not [
-      | inl none ↦ none (of.1.met, folded_means p w blob version b page (sound.weaves version of.0) of.1)
-      | inr early ↦ omega (arith, early, of.2)
+      | inl none ↦ none (anew.met, folded_means p w blob version b page (sound.weaves version its) anew)
+      | inr early ↦ omega (arith, early, rw same at before)
     ]
 
 abbrev with_folds : World → List (FoldKey × List ℕ) → World
@@ -213,11 +196,10 @@ finish_is_done p w caller blob version b blobs own row fresh set =
     let ok : is_refused (answer w.store caller (Calls.Finish blob version)).1 ≡ false = finish_refused w.store caller blob version b own.there ∙ or_false (is_finished b version) ∙ fresh in
     let (x, is, store) = finish_done w.store caller blob version ok in
     let same : x ≡ b = one_value (blob_at w.store blob) x b is own.there in
-    let leaves : List Blob → Store = λ l. record { limits = w.store.limits; blobs = l } in
-    let stored : leaves blobs ≡ store_from w.store (Events.Finish caller blob version ∷ []) =
-    ap leaves set ∙ ap (λ (y : Blob). with_blob w.store blob (finish y version)) (sym same) ∙ sym store in
+    let stored : with_blob w.store blob (finish b version) ≡ store_from w.store (Events.Finish caller blob version ∷ []) =
+    ap (λ (y : Blob). with_blob w.store blob (finish y version)) (sym same) ∙ sym store in
     let W : Store → World = λ s. record w { store = s } in
-    record { allowed = (ok, (b, own, row)); is = ap W stored }
+    rw set (record { allowed = (ok, (b, own, row)); is = ap W stored })
 
 -- an update that is finished, or of whose row a node isn't there, may not be finished
 pub not_finishable : (p : ℕ) (w : World) (caller blob version : ℕ) (b : Blob) → blob_at w.store blob ≡ Some b → (is_finished b version ≡ true) ⊎ (¬ RowIsThere p w blob version b)
@@ -228,12 +210,8 @@ not_finishable p w caller blob version b there (inl fin) ok =
 not_finishable p w caller blob version b there (inr apart) ok =
     let (x, own, row) = ok.1 in
     let same : x ≡ b = one_value (blob_at w.store blob) x b own.there there in
-    let R : Blob → Type 0 = λ y. RowIsThere p w blob version y in
-    apart (subst R same row)
+    apart (rw same at row)
 
 -- the nodes for some ranges, by other names of both
 pub same_there : (a b : List (NodeKey × Node)) (blob version : ℕ) (x y : List Range) → a ≡ b → x ≡ y → AreThere a blob version x → AreThere b blob version y
-same_there a b blob version x y e f all =
-    let N : List (NodeKey × Node) → Type 0 = λ l. AreThere l blob version x in
-    let K : List Range → Type 0 = λ l. AreThere b blob version l in
-    subst K f (subst N e all)
+same_there a b blob version x y e f all = rw (← e, ← f) all

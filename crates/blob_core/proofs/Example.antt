@@ -79,6 +79,16 @@ second_first = Moves.NodePut (key 1 2 0 4) ∷ Moves.Finish 2 1 2 ∷ []
 abbrev then_first : List Step
 then_first = Moves.NodePut (key 1 1 0 4) ∷ Moves.Finish 1 1 1 ∷ []
 
+-- and the worlds in between
+abbrev second_put : World
+second_put = world_of (two_appends ++ Moves.NodePut (key 1 2 0 4) ∷ [])
+
+abbrev second_done : World
+second_done = world_of (two_appends ++ second_first)
+
+abbrev first_put : World
+first_put = world_of (two_appends ++ second_first ++ Moves.NodePut (key 1 1 0 4) ∷ [])
+
 row_of_second : row_keys_of 4 (touches 4 (extents (the_blob (world_of two_appends)).updates)) 2 ≡ range_at 0 4 ∷ []
 unfolding touches extents row_keys_of levels_of level_of height_of doublings
 row_of_second = refl
@@ -87,11 +97,11 @@ row_of_second = refl
 second_is_missing : node_at (world_of two_appends).nodes (key 1 2 0 4) ≡ None
 second_is_missing = refl
 
-second_is_woven : FoldNumberIs → node_at (world_of (two_appends ++ second_first)).nodes (key 1 2 0 4) ≡ Some (one_piece 1 1 1 1)
+second_is_woven : FoldNumberIs → node_at second_done.nodes (key 1 2 0 4) ≡ Some (one_piece 1 1 1 1)
 unfolding touches extents newest_of found_in followed span_of height_of doublings
 second_is_woven either = rw (one_deep either) refl
 
-none_published : published_of (blob_at (world_of (two_appends ++ second_first)).store 1) ≡ 0 ∷ []
+none_published : published_of (blob_at second_done.store 1) ≡ 0 ∷ []
 none_published = refl
 
 both_published : published_of (blob_at (world_of (two_appends ++ second_first ++ then_first)).store 1) ≡ 2 ∷ []
@@ -114,18 +124,15 @@ no_fold w version kept there none page at f =
     let begins : 0 ≡ page * 4 = ap (λ (r : Range). r.offset) at in
     let first : page ≡ 0 = omega arith in
     let same : f.kept ≡ kept = one_value (kept_at w.updates 1 version) f.kept kept f.there there in
-    let E : UpdateEntry → Type 0 = λ e. woven_folded fold_number 4 w 1 (the_blob w) e version page ≡ true in
-    let P : ℕ → Type 0 = λ i. woven_folded fold_number 4 w 1 (the_blob w) kept version i ≡ true in
-    let anew : P 0 = subst P first (subst E same f.anew) in
-    let no : false ≡ true = sym none ∙ anew in
+    let no : false ≡ true = sym none ∙ rw (same, first) at f.anew in
     (let never : ⊥ = cc in absurd never)
 
 second_stays : FoldNumberIs → woven_folded fold_number 4 (world_of two_appends) 1 (the_blob (world_of two_appends)) (kept_or (kept_at (world_of two_appends).updates 1 2)) 2 0 ≡ false
 unfolding touches extents found_in followed span_of height_of doublings
 second_stays either = rw (one_deep either) refl
 
-first_stays : woven_folded fold_number 4 (world_of (two_appends ++ second_first)) 1 (the_blob (world_of (two_appends ++ second_first)))
-    (kept_or (kept_at (world_of (two_appends ++ second_first)).updates 1 1)) 1 0 ≡ false
+first_stays : woven_folded fold_number 4 second_done 1 (the_blob second_done)
+    (kept_or (kept_at second_done.updates 1 1)) 1 0 ≡ false
 unfolding touches extents found_in followed span_of height_of doublings
 first_stays = refl
 
@@ -144,8 +151,7 @@ only_one a r (suc k, lt, e) = absurd (omega arith)
 -- the one range of a row with one node
 only : (rs : List Range) (a r : Range) → rs ≡ a ∷ [] → Contains rs r → a ≡ r
 only rs a r e has =
-    let P : List Range → Type 0 = λ l. Contains l r in
-    only_one a r (subst P e has)
+    only_one a r (rw e at has)
 
 row_there : (w : World) (version : ℕ) (n : Node) → row_keys_of 4 (log_of 4 (the_blob w).updates) version ≡ range_at 0 4 ∷ [] → node_at w.nodes (key 1 version 0 4) ≡ Some n
     → RowIsThere 4 w 1 version (the_blob w)
@@ -157,9 +163,34 @@ row_of_first : row_keys_of 4 (touches 4 (extents (the_blob (world_of two_appends
 unfolding touches extents row_keys_of levels_of level_of height_of doublings
 row_of_first = refl
 
-first_is_woven : node_at (world_of (two_appends ++ second_first ++ Moves.NodePut (key 1 1 0 4) ∷ [])).nodes (key 1 1 0 4) ≡ Some (one_piece 0 1 0 0)
+first_is_woven : node_at first_put.nodes (key 1 1 0 4) ≡ Some (one_piece 0 1 0 0)
 unfolding touches extents newest_of found_in followed span_of height_of doublings
 first_is_woven = refl
+
+second_may_put : FoldNumberIs → IsAllowed 4 (world_of two_appends) (Moves.NodePut (key 1 2 0 4))
+second_may_put either = (
+  the_blob (world_of two_appends),
+  numbered (world_of two_appends) 2 refl (lit≤ tt) (lit≤ tt) refl,
+  second_has,
+  no_fold (world_of two_appends) 2 (kept_or (kept_at (world_of two_appends).updates 1 2)) refl (second_stays either),
+)
+
+second_may_finish : FoldNumberIs → IsAllowed 4 second_put (Moves.Finish 2 1 2)
+second_may_finish either = (
+  refl,
+  (the_blob second_put, numbered second_put 2 refl (lit≤ tt) (lit≤ tt) refl, row_there second_put 2 (one_piece 1 1 1 1) row_of_second (second_is_woven either)),
+)
+
+first_may_put : IsAllowed 4 second_done (Moves.NodePut (key 1 1 0 4))
+first_may_put = (
+  the_blob second_done,
+  numbered second_done 1 refl (lit≤ tt) (lit≤ tt) refl,
+  first_has,
+  no_fold second_done 1 (kept_or (kept_at second_done.updates 1 1)) refl first_stays,
+)
+
+first_may_finish : IsAllowed 4 first_put (Moves.Finish 1 1 1)
+first_may_finish = (refl, (the_blob first_put, numbered first_put 1 refl (lit≤ tt) (lit≤ tt) refl, row_there first_put 1 (one_piece 0 1 0 0) row_of_first first_is_woven))
 
 script_is_allowed : FoldNumberIs → AllAllowed 4 (empty_world greatest) (two_appends ++ second_first ++ then_first)
 script_is_allowed either = (
@@ -172,43 +203,7 @@ script_is_allowed either = (
         ((170 ∷ [], refl), refl),
         (
           ((187 ∷ [], refl), refl),
-          (
-            (
-              the_blob (world_of two_appends),
-              numbered (world_of two_appends) 2 refl (lit≤ tt) (lit≤ tt) refl,
-              second_has,
-              no_fold (world_of two_appends) 2 (kept_or (kept_at (world_of two_appends).updates 1 2)) refl (second_stays either),
-            ),
-            (
-              (
-                refl,
-                (
-                  the_blob (world_of two_appends),
-                  numbered (world_of (two_appends ++ Moves.NodePut (key 1 2 0 4) ∷ [])) 2 refl (lit≤ tt) (lit≤ tt) refl,
-                  row_there (world_of (two_appends ++ Moves.NodePut (key 1 2 0 4) ∷ [])) 2 (one_piece 1 1 1 1) row_of_second (second_is_woven either),
-                ),
-              ),
-              (
-                (
-                  the_blob (world_of (two_appends ++ second_first)),
-                  numbered (world_of (two_appends ++ second_first)) 1 refl (lit≤ tt) (lit≤ tt) refl,
-                  first_has,
-                  no_fold (world_of (two_appends ++ second_first)) 1 (kept_or (kept_at (world_of (two_appends ++ second_first)).updates 1 1)) refl first_stays,
-                ),
-                (
-                  (
-                    refl,
-                    (
-                      the_blob (world_of (two_appends ++ second_first)),
-                      numbered (world_of (two_appends ++ second_first ++ Moves.NodePut (key 1 1 0 4) ∷ [])) 1 refl (lit≤ tt) (lit≤ tt) refl,
-                      row_there (world_of (two_appends ++ second_first ++ Moves.NodePut (key 1 1 0 4) ∷ [])) 1 (one_piece 0 1 0 0) row_of_first first_is_woven,
-                    ),
-                  ),
-                  tt,
-                ),
-              ),
-            ),
-          ),
+          (second_may_put either, (second_may_finish either, (first_may_put, (first_may_finish, tt)))),
         ),
       ),
     ),
@@ -221,6 +216,5 @@ finish_is_not_allowed ok =
     let (b, own, row) = ok.1 in
     let same : b ≡ the_blob (world_of two_appends) = one_value (blob_at (world_of two_appends).store 1) b (the_blob (world_of two_appends)) own.there refl in
     let keys : row_keys_of 4 (log_of 4 b.updates) 2 ≡ range_at 0 4 ∷ [] = ap (λ (x : Blob). row_keys_of 4 (log_of 4 x.updates) 2) same ∙ row_of_second in
-    let P : List Range → Type 0 = λ l. Contains l (range_at 0 4) in
-    let (n, is) = row (range_at 0 4) (subst P (sym keys) (0, lit< tt, refl)) in
+    let (n, is) = row (range_at 0 4) (rw keys (0, lit< tt, refl)) in
     none_some (node_at (world_of two_appends).nodes (key 1 2 0 4)) n second_is_missing is

@@ -1,5 +1,5 @@
 -- What a longer list of updates says of the versions of the shorter one; and the laws that are cited.
-use Rattle.std.proofs.Common.{◌≡◌, ℕ, ◌+◌, ◌*◌, ◌<◌, ◌≤◌, zero, suc, List, [], ◌∷◌, ◌++◌, length, take, drop, arith, inl, inr, refl, ap, sym, subst, ◌∙◌}
+use Rattle.std.proofs.Common.{◌≡◌, ℕ, ◌+◌, ◌*◌, ◌<◌, ◌≤◌, zero, suc, List, [], ◌∷◌, ◌++◌, length, take, drop, arith, inl, inr, refl, ap, sym, ◌∙◌}
 use Rattle.std.proofs.lemmas.Bool.{cases_lt}
 use Rattle.std.proofs.lemmas.List.{get_or_append_left, take-append-le, take-append-drop, length-take-le, length-append}
 use Rattle.std.proofs.Math.Seq.{get_or-append_seam}
@@ -8,12 +8,11 @@ use Rattle.tree_geom.specs.declared.range.Range.{Range}
 use Rattle.tree_geom.specs.declared.touch.Touch.{Touch}
 use Rattle.range_log.specs.Log.{touch_at, size_at, HasNode}
 use Rattle.range_log.specs.Extents.{Extent, size_after, touches}
-use Rattle.range_log.specs.Updates.{update_at, no_update, extent_of, extents, page_bytes, Replayable}
+use Rattle.range_log.specs.Updates.{update_at, no_update, extents, page_bytes, Replayable}
 use Rattle.range_log.specs.Rows.{folded_of, node_of}
 use Rattle.range_log.proofs.Growth.{same_folded}
 use Rattle.range_log.specs.Laws.{LinksNameNodes, LinksLead, BacksLead, BacksHaveNoHoles, ExtentsStand, LeavesFill, LeavesFit, PiecesJoin, PageBytesStay, NewestIsGreatest, RowKeysExact, BacksStep, RowsStay, ExtentsGrow}
 use Rattle.range_log.specs.Walk.{RootsStand, LinksFind, ChildStands, WeaverFinds, VisitedNone, VisitedLeaf, VisitedInner, WalksAreBounded}
-use Rattle.range_log.specs.declared.«open».OpenTouch.{OpenTouch}
 use Rattle.blob_core.specs.World.{log_of, waiting_after}
 use Rattle.range_log.proofs.Bytes.{length-extents}
 use Rattle.range_log.proofs.Grown.{length-touches, size-touches}
@@ -57,22 +56,8 @@ update_same us more k lt = get_or_append_left us more no_update k lt
 pub size_same : (us more : List Update) (v : ℕ) → v ≤ length us → size_of (us ++ more) v ≡ size_of us v
 size_same us more v le = ap (λ (l : List Update). length (content_from [] l)) (take-append-le v us more le)
 
-abbrev extent_with : Update → ℕ → Extent
-extent_with u n = record { at = offset_of u.place n; len = length u.bytes }
-
-extent_same : (us more : List Update) (k : ℕ) → k < length us → extent_of (us ++ more) (suc k) ≡ extent_of us (suc k)
-extent_same us more k lt =
-    ap (λ (u : Update). extent_with u (size_of (us ++ more) k)) (update_same us more k lt)
-    ∙ ap (λ (n : ℕ). extent_with (update_at us (suc k)) n) (size_same us more k (omega arith))
-
 pub replay_front : (us more : List Update) → Replayable (us ++ more) → Replayable us
-replay_front us more ok k lt =
-    let e : extent_of (us ++ more) (suc k) ≡ extent_of us (suc k) = extent_same us more k lt in
-    let at : (extent_of (us ++ more) (suc k)).at ≡ (extent_of us (suc k)).at = ap (λ (x : Extent). x.at) e in
-    let len : (extent_of (us ++ more) (suc k)).len ≡ (extent_of us (suc k)).len = ap (λ (x : Extent). x.len) e in
-    let size : size_of (us ++ more) k ≡ size_of us k = size_same us more k (omega arith) in
-    let was = ok k (omega (arith, length-append us more)) in
-    (omega (arith, was.0, at, size), omega (arith, was.1, len))
+replay_front us more ok k lt = rw (update_same us more k lt, size_same us more k (omega arith)) at (ok k (omega (arith, length-append us more)))
 
 pub update_next : (us : List Update) (u : Update) → update_at (us ++ u ∷ []) (suc (length us)) ≡ u
 update_next us u = get_or-append_seam us u [] no_update
@@ -81,22 +66,10 @@ pub replay_next : (us : List Update) (u : Update) → Replayable us → offset_o
     → Replayable (us ++ u ∷ [])
 replay_next us u ok fits some k lt =
     elim (cases_lt k (length us)) [
-      | inl old ↦
-          let e : extent_of (us ++ u ∷ []) (suc k) ≡ extent_of us (suc k) = extent_same us (u ∷ []) k old in
-          let at : (extent_of (us ++ u ∷ []) (suc k)).at ≡ (extent_of us (suc k)).at = ap (λ (x : Extent). x.at) e in
-          let len : (extent_of (us ++ u ∷ []) (suc k)).len ≡ (extent_of us (suc k)).len = ap (λ (x : Extent). x.len) e in
-          let size : size_of (us ++ u ∷ []) k ≡ size_of us k = size_same us (u ∷ []) k (omega arith) in
-          let was = ok k old in
-          (omega (arith, was.0, at, size), omega (arith, was.1, len))
+      | inl old ↦ rw (update_same us (u ∷ []) k old, size_same us (u ∷ []) k (omega arith)) (ok k old)
       | inr new ↦
-          let here : length us ≡ k = omega (arith, length-append us (u ∷ [])) in
-          let P : ℕ → Type 0 = λ j. ((extent_of (us ++ u ∷ []) (suc j)).at ≤ size_of (us ++ u ∷ []) j) × (1 ≤ (extent_of (us ++ u ∷ []) (suc j)).len) in
-          let size : size_of (us ++ u ∷ []) (length us) ≡ size_of us (length us) = size_same us (u ∷ []) (length us) (omega arith) in
-          let e : extent_of (us ++ u ∷ []) (suc (length us)) ≡ extent_with u (size_of us (length us)) =
-          ap (λ (x : Update). extent_with x (size_of (us ++ u ∷ []) (length us))) (update_next us u) ∙ ap (λ (n : ℕ). extent_with u n) size in
-          let at : (extent_of (us ++ u ∷ []) (suc (length us))).at ≡ offset_of u.place (size_of us (length us)) = ap (λ (x : Extent). x.at) e in
-          let len : (extent_of (us ++ u ∷ []) (suc (length us))).len ≡ length u.bytes = ap (λ (x : Extent). x.len) e in
-          subst P here (omega (arith, at, size, fits), omega (arith, len, some))
+          (let here : k ≡ length us = omega (arith, length-append us (u ∷ [])) in
+          rw (here, update_next us u, size_same us (u ∷ []) (length us) (omega arith)) (fits, some))
     ]
 
 -- ---- two lists of updates that agree on the first n
@@ -143,12 +116,8 @@ agree_more c p us more =
     record {
       update = λ j some le. update_same_at us more j some le;
       touch = λ j le. ap (λ (x : List Extent). touch_at (touches p x) j) e ∙ (c.rows p j xs rest (in_list j le)).0;
-      there = λ j r le h.
-          let P : List Extent → Type 0 = λ x. HasNode p (touches p x) j r in
-          subst P (sym e) (((c.rows p j xs rest (in_list j le)).2 r).0 h);
-      back = λ j r le h.
-          let P : List Extent → Type 0 = λ x. HasNode p (touches p x) j r in
-          ((c.rows p j xs rest (in_list j le)).2 r).1 (subst P e h);
+      there = λ j r le h. rw e (((c.rows p j xs rest (in_list j le)).2 r).0 h);
+      back = λ j r le h. ((c.rows p j xs rest (in_list j le)).2 r).1 (rw e at h);
       node = λ j r le. ap (λ (x : List Extent). node_of p x j r) e ∙ (c.rows p j xs rest (in_list j le)).3 r;
       anew = λ j i le. ap (λ (x : List Extent). folded_of p x j i) e ∙ same_folded p xs rest j i (in_list j le);
       page = λ j i le. ap (λ (l : List Update). take p (drop (i * p) (content_from [] l))) (take-append-le j us more le);
@@ -159,15 +128,9 @@ pub agree_front : (c : Cited) (p : ℕ) (us : List Update) (n : ℕ) → n ≤ l
 agree_front c p us n le =
     let l : length (take n us) ≡ n = length-take-le n us le in
     let a : Agrees p (take n us) (take n us ++ drop n us) (length (take n us)) = agree_more c p (take n us) (drop n us) in
-    let P : List Update → Type 0 = λ x. Agrees p (take n us) x (length (take n us)) in
-    let Q : ℕ → Type 0 = λ m. Agrees p (take n us) us m in
-    agree_back p (take n us) us n (subst Q l (subst P (take-append-drop n us) a))
+    agree_back p (take n us) us n (rw (take-append-drop n us, l) at a)
 
 -- ---- hints
 pub waiting_same : (a b : List Touch) (v n m : ℕ) → v + n ≤ m → ((j : ℕ) → j ≤ m → touch_at b j ≡ touch_at a j) → waiting_after b v n ≡ waiting_after a v n
 waiting_same a b v zero m le same = refl
-waiting_same a b v (suc n) m le same =
-    let more : OpenTouch → List OpenTouch → List OpenTouch = λ x xs. x ∷ xs in
-    let opened : Touch → OpenTouch = λ t. record { version = suc (v + n); touch = t } in
-    ap (λ (t : Touch). more (opened t) (waiting_after b v n)) (same (suc (v + n)) (omega arith))
-    ∙ ap (λ (l : List OpenTouch). more (opened (touch_at a (suc (v + n)))) l) (waiting_same a b v n m (omega arith) same)
+waiting_same a b v (suc n) m le same = rw (same (suc (v + n)) (omega arith), waiting_same a b v n m (omega arith) same) refl

@@ -3,15 +3,15 @@ use Rattle.std.proofs.Common.{◌≡◌, ◌⊎◌, ℕ, ◌+◌, ◌-◌, ◌<�
 use Rattle.std.specs.Prelude.{◌==◌, if◌then◌else◌, Option, Some, None, slice_index_or}
 use Rattle.std.proofs.lemmas.Bool.Decides.{nat_tests}
 use Rattle.std.proofs.lemmas.Bool.{cases_lt}
-use Rattle.std.proofs.lemmas.List.{length-append, length-set, length-replicate, length-take-le, take-append-drop}
+use Rattle.std.proofs.lemmas.List.{get_or_past, length-append, length-set, length-replicate, length-take-le, take-append-drop}
 use Rattle.blob_model.specs.Limits.{Bounds}
 use Rattle.blob_model.specs.Content.{Update, offset_of}
 use Rattle.blob_model.specs.Store.{Store, Blob, blob_at, with_blob, and_blob, and_update, finish, branch_of, published, assigned, is_finished, size_now}
 use Rattle.tree_geom.specs.declared.range.Range.{Range}
 use Rattle.tree_geom.specs.declared.node.Node.{Node}
 use Rattle.tree_geom.specs.declared.node.NodeKey.{NodeKey}
-use Rattle.tree_geom.specs.Geometry.{Meets, page_range}
-use Rattle.range_log.specs.Log.{HasNode, touch_at}
+use Rattle.tree_geom.specs.Geometry.{page_range}
+use Rattle.range_log.specs.Log.{HasNode}
 use Rattle.range_log.specs.Rows.{folded_of, node_of}
 use Rattle.range_log.specs.Extents.{InBounds}
 use Rattle.range_log.specs.Updates.{update_at, extents, page_bytes, Replayable}
@@ -23,12 +23,12 @@ use Rattle.blob_core.specs.Woven.{woven}
 use Rattle.blob_core.specs.Steps.{IsFolded, IsNumberedIn, RowIsThere, next_kept, with_update, with_node, with_node_by}
 use Rattle.blob_core.specs.Promises.{IsFoldPage, FoldsArePages, IsRowNode, NodesAreRows}
 use Rattle.blob_core.proofs.Lists.{one_value, none_some, number_means, update_means, update_itself, fold_means, key_means, entry_kept, entry_new, entry_old, mark_next, mark_set, prefix_marked, prefix_all, KeepsPages, SmallPages, cut_kept, joined_kept}
-use Rattle.blob_model.proofs.Marks.{prefix_within}
+use Rattle.blob_model.proofs.Marks.{prefix_within, blob_at-with}
 use Rattle.blob_model.proofs.Stays.{true_prefix-set, true_prefix-append}
 use Rattle.branching.proofs.Parents.{origin_older, origin_past, origin_own, origin_shared}
 use Rattle.blob_core.proofs.Growing.{Cited, Agrees, agree_same, agree_more, agree_front, replay_front, replay_next, update_next, waiting_same, length_log}
 use Rattle.blob_core.proofs.Finding.{RowsKnown, woven_is, woven_folded_is}
-use Rattle.blob_core.proofs.Taken.{blob_some, more_kept, more_was, with_was, with_new, with_on}
+use Rattle.blob_core.proofs.Taken.{blob_some, more_kept, more_was, with_was, with_on}
 
 -- ---- what holds
 -- What is kept beside update j of a blob: its pages hold its bytes, and its hints are those of its numbering.
@@ -95,11 +95,11 @@ pub published_within : (p : ℕ) (w : World) (blob : ℕ) (b : Blob) → BlobSta
 published_within p w blob b s = omega (arith, prefix_within b.finished, s.marks)
 
 -- ---- worlds that only grow
-pub record Wider (a b : World) : Type 0 where
-  pub pages : KeepsPages a.pages b.pages
-  pub updates : (blob version : ℕ) (kept : UpdateEntry) → kept_at a.updates blob version ≡ Some kept → kept_at b.updates blob version ≡ Some kept
-  pub nodes : (key : NodeKey) (n : Node) → node_at a.nodes key ≡ Some n → node_at b.nodes key ≡ Some n
-  pub folded : (blob version page : ℕ) (bytes : List ℕ) → fold_at a.folded blob version page ≡ Some bytes → fold_at b.folded blob version page ≡ Some bytes
+record Wider (a b : World) : Type 0 where
+  pages : KeepsPages a.pages b.pages
+  updates : (blob version : ℕ) (kept : UpdateEntry) → kept_at a.updates blob version ≡ Some kept → kept_at b.updates blob version ≡ Some kept
+  nodes : (key : NodeKey) (n : Node) → node_at a.nodes key ≡ Some n → node_at b.nodes key ≡ Some n
+  folded : (blob version page : ℕ) (bytes : List ℕ) → fold_at a.folded blob version page ≡ Some bytes → fold_at b.folded blob version page ≡ Some bytes
 
 -- a change of the store, or of the lineage, leaves what is kept, the pages and the nodes alone
 wider_same : (w : World) (t : Store) (parents : List (Option Parent)) → Wider w (record w { store = t; lineage = parents })
@@ -111,166 +111,164 @@ wider_same w t parents = record {
 }
 
 -- each blob is there, and what it was is a beginning of what it is
-abbrev pub Forward : ℕ → World → World → Type 0
+abbrev Forward : ℕ → World → World → Type 0
 Forward p a b = (blob : ℕ) (old : Blob) → blob_at a.store blob ≡ Some old
     → (new : Blob) × (blob_at b.store blob ≡ Some new) × Agrees p old.updates new.updates (assigned old) × (assigned old ≤ assigned new)
 
 forward_same : (p : ℕ) (a b : World) → ((blob : ℕ) (old : Blob) → blob_at a.store blob ≡ Some old → blob_at b.store blob ≡ Some old) → Forward p a b
 forward_same p a b same blob old e = (old, same blob old e, agree_same p old.updates (assigned old), omega arith)
 
-row_moved : (p : ℕ) (a b : World) (key : NodeKey) (n : Node) → Forward p a b → IsRowNode p a key n → IsRowNode p b key n
-row_moved p a b key n on row =
-    let (new, at, agrees, more) = on key.blob row.b row.there in
-    let upto : key.version ≤ assigned row.b = omega (arith, row.has.version.1, length_log p row.b.updates) in
-    record {
-      b = new;
-      there = at;
-      has = agrees.there key.version key.range upto row.has;
-      is = row.is ∙ sym (agrees.node key.version key.range upto);
-    }
+module _ (p : ℕ) (a b : World) (wide : Wider a b) (on : Forward p a b) where
+  row_moved : (key : NodeKey) (n : Node) → IsRowNode p a key n → IsRowNode p b key n
+  row_moved key n row =
+      let (new, at, agrees, more) = on key.blob row.b row.there in
+      let upto : key.version ≤ assigned row.b = omega (arith, row.has.version.1, length_log p row.b.updates) in
+      record { b = new; there = at; has = agrees.there key.version key.range upto row.has; is = row.is ∙ sym (agrees.node key.version key.range upto) }
 
-fold_moved : (p : ℕ) (a b : World) (blob version page : ℕ) (bytes : List ℕ) → Forward p a b → IsFoldPage p a blob version page bytes → IsFoldPage p b blob version page bytes
-fold_moved p a b blob version page bytes on x =
-    let (new, at, agrees, more) = on blob x.b x.there in
-    record { b = new; there = at; upto = omega (arith, x.upto); is = x.is ∙ sym (agrees.page version page x.upto) }
+  fold_moved : (blob version page : ℕ) (bytes : List ℕ) → IsFoldPage p a blob version page bytes → IsFoldPage p b blob version page bytes
+  fold_moved blob version page bytes x =
+      let (new, at, agrees, more) = on blob x.b x.there in
+      record { b = new; there = at; upto = omega (arith, x.upto); is = x.is ∙ sym (agrees.page version page x.upto) }
 
-there_moved : (p : ℕ) (a b : World) (key : NodeKey) (n : Node) → Forward p a b → Wider a b → IsRowNode p a key n → FoldIsThere p a key → FoldIsThere p b key
-there_moved p a b key n on wide row was x at i same anew =
-    let (new, here, agrees, more) = on key.blob row.b row.there in
-    let upto : key.version ≤ assigned row.b = omega (arith, row.has.version.1, length_log p row.b.updates) in
-    let eq : new ≡ x = one_value (blob_at b.store key.blob) new x here at in
-    let old : folded_of p (extents row.b.updates) key.version i ≡ true =
-    sym (agrees.anew key.version i upto) ∙ ap (λ (y : Blob). folded_of p (extents y.updates) key.version i) eq ∙ anew in
-    let (bytes, e) = was row.b row.there i same old in
-    (bytes, wide.folded key.blob key.version i bytes e)
+  there_moved : (key : NodeKey) (n : Node) → IsRowNode p a key n → FoldIsThere p a key → FoldIsThere p b key
+  there_moved key n row was x at i same anew =
+      let (new, here, agrees, more) = on key.blob row.b row.there in
+      let upto : key.version ≤ assigned row.b = omega (arith, row.has.version.1, length_log p row.b.updates) in
+      let eq : new ≡ x = one_value (blob_at b.store key.blob) new x here at in
+      let (bytes, e) = was row.b row.there i same (sym (agrees.anew key.version i upto) ∙ ap (λ (y : Blob). folded_of p (extents y.updates) key.version i) eq ∙ anew) in
+      (bytes, wide.folded key.blob key.version i bytes e)
 
-of_blob_moved : (p : ℕ) (a b : World) (blob version : ℕ) → Forward p a b → IsOfBlob a blob version → IsOfBlob b blob version
-of_blob_moved p a b blob version on (old, e, le) = let (new, at, agrees, more) = on blob old e in (new, at, omega arith)
+  -- A world stands after a step where its pages and blobs do: all else was there, or stood already when it was put.
+  stands_on : Stands p a → length b.lineage ≡ length b.store.blobs → SmallPages p b.pages
+      → ((blob version : ℕ) (kept : UpdateEntry) → kept_at b.updates blob version ≡ Some kept → IsOfBlob b blob version ⊎ (kept_at a.updates blob version ≡ Some kept))
+      → ((blob : ℕ) (x : Blob) → blob_at b.store blob ≡ Some x → BlobStands p b blob x)
+      → ((key : NodeKey) (n : Node) → node_at b.nodes key ≡ Some n → (IsRowNode p a key n × FoldIsThere p a key) ⊎ (node_at a.nodes key ≡ Some n))
+      → ((blob version page : ℕ) (bytes : List ℕ) → fold_at b.folded blob version page ≡ Some bytes
+      → IsFoldPage p a blob version page bytes ⊎ (fold_at a.folded blob version page ≡ Some bytes))
+      → Stands p b
+  stands_on s lineage pages known blobs nodes folds = record {
+    lineage = lineage;
+    pages = pages;
+    known = λ blob version kept e.
+        elim (known blob version kept e) [ inl new ↦ new | inr was ↦ (let (x, is, le) = s.known blob version kept was in let (y, at, agrees, more) = on blob x is in (y, at, omega arith)) ];
+    blobs = blobs;
+    nodes = λ key n e. row_moved key n (elim (nodes key n e) [ inl new ↦ new.0 | inr was ↦ s.nodes key n was ]);
+    folds = λ blob version page bytes e. fold_moved blob version page bytes (elim (folds blob version page bytes e) [ inl new ↦ new | inr was ↦ s.folds blob version page bytes was ]);
+    anew = λ key n e. elim (nodes key n e) [ inl new ↦ there_moved key n new.0 new.1 | inr was ↦ there_moved key n (s.nodes key n was) (s.anew key n was) ];
+  }
 
-update_moved : (p : ℕ) (a b : World) (blob blob' : ℕ) (old new : Blob) (n j : ℕ) → Wider a b → Agrees p old.updates new.updates n → 1 ≤ j → j ≤ n
-    → origin b blob' j ≡ origin a blob j → (s : UpdateStands p a blob old j) → s.kept.published ≤ published new → UpdateStands p b blob' new j
-update_moved p a b blob blob' old new n j wide agrees some le same s front =
-    let At : ℕ → Type 0 = λ o. kept_at b.updates o j ≡ Some s.kept in
-    record {
-      kept = s.kept;
-      there = subst At (sym same) (wide.updates (origin a blob j) j s.kept s.there);
-      cut = cut_kept p a.pages b.pages wide.pages s.kept.pages s.cut;
-      bytes = joined_kept p a.pages b.pages wide.pages s.kept.pages s.cut ∙ s.bytes ∙ ap (λ (u : Update). u.bytes) (sym (agrees.update j some le));
-      before = s.before;
-      front = front;
-      waiting = s.waiting ∙ sym (waiting_same (log_of p old.updates) (log_of p new.updates) s.kept.published (j - 1 - s.kept.published) n (omega (arith, s.before)) agrees.touch);
-    }
+-- ---- a blob whose versions up to n are those of another one
+-- what stands of a blob's versions up to n
+record StandsUpTo (p : ℕ) (w : World) (blob : ℕ) (b : Blob) (n : ℕ) : Type 0 where
+  updates : (j : ℕ) → 1 ≤ j → j ≤ n → UpdateStands p w blob b j
+  rows : (j : ℕ) (r : Range) → j ≤ n → is_finished b j ≡ true → HasNode p (log_of p b.updates) j r → node_in w blob j r ≡ Some (node_of p (extents b.updates) j r)
+  folds : (j i : ℕ) → j ≤ n → is_finished b j ≡ true → HasNode p (log_of p b.updates) j (page_range p i) → folded_of p (extents b.updates) j i ≡ true
+      → fold_at w.folded (origin w blob j) j i ≡ Some (page_bytes p b.updates j i)
 
-rows_moved : (p : ℕ) (a b : World) (blob blob' : ℕ) (old new : Blob) (n j : ℕ) (r : Range) → Wider a b → Agrees p old.updates new.updates n → j ≤ n
-    → origin b blob' j ≡ origin a blob j → node_in a blob j r ≡ Some (node_of p (extents old.updates) j r)
-    → node_in b blob' j r ≡ Some (node_of p (extents new.updates) j r)
-rows_moved p a b blob blob' old new n j r wide agrees le same is =
-    let At : ℕ → Type 0 = λ o. node_at b.nodes (record { blob = o; version = j; range = r }) ≡ Some (node_of p (extents old.updates) j r) in
-    let some : Node → Option Node = λ x. Some x in
-    subst At (sym same) (wide.nodes (key_in a blob j r) (node_of p (extents old.updates) j r) is) ∙ ap some (sym (agrees.node j r le))
+-- all of them
+blob_stands : (p : ℕ) (w : World) (blob : ℕ) (b : Blob) → Replayable b.updates → length b.finished ≡ length b.updates → ((j : ℕ) → assigned b < j → origin w blob j ≡ blob)
+    → StandsUpTo p w blob b (assigned b) → BlobStands p w blob b
+blob_stands p w blob b replay marks own m = record {
+  replay = replay;
+  marks = marks;
+  own = own;
+  updates = m.updates;
+  rows = λ j r fin has. m.rows j r (omega (arith, has.version.1, length_log p b.updates)) fin has;
+  folds = λ j i fin has anew. m.folds j i (omega (arith, has.version.1, length_log p b.updates)) fin has anew;
+}
 
-folds_moved : (p : ℕ) (a b : World) (blob blob' : ℕ) (old new : Blob) (n j i : ℕ) → Wider a b → Agrees p old.updates new.updates n → j ≤ n
-    → origin b blob' j ≡ origin a blob j → fold_at a.folded (origin a blob j) j i ≡ Some (page_bytes p old.updates j i)
-    → fold_at b.folded (origin b blob' j) j i ≡ Some (page_bytes p new.updates j i)
-folds_moved p a b blob blob' old new n j i wide agrees le same is =
-    let At : ℕ → Type 0 = λ o. fold_at b.folded o j i ≡ Some (page_bytes p old.updates j i) in
-    let some : List ℕ → Option (List ℕ) = λ x. Some x in
-    subst At (sym same) (wide.folded (origin a blob j) j i (page_bytes p old.updates j i) is) ∙ ap some (sym (agrees.page j i le))
+module _ (p : ℕ) (a b : World) (blob blob' : ℕ) (old new : Blob) (n : ℕ) (wide : Wider a b) (agrees : Agrees p old.updates new.updates n)
+    (same : (j : ℕ) → j ≤ n → origin b blob' j ≡ origin a blob j) (s : BlobStands p a blob old) (few : n ≤ assigned old)
+    (front : (m j : ℕ) → m < j → j ≤ n → m ≤ published old → m ≤ published new) where
+  update_moved : (j : ℕ) → 1 ≤ j → j ≤ n → UpdateStands p b blob' new j
+  update_moved j some le =
+      let u : UpdateStands p a blob old j = s.updates j some (omega arith) in
+      record {
+        kept = u.kept;
+        there = rw (same j le) (wide.updates (origin a blob j) j u.kept u.there);
+        cut = cut_kept p a.pages b.pages wide.pages u.kept.pages u.cut;
+        bytes = joined_kept p a.pages b.pages wide.pages u.kept.pages u.cut ∙ u.bytes ∙ ap (λ (x : Update). x.bytes) (sym (agrees.update j some le));
+        before = u.before;
+        front = front u.kept.published j u.before le u.front;
+        waiting = u.waiting ∙ sym (waiting_same (log_of p old.updates) (log_of p new.updates) u.kept.published (j - 1 - u.kept.published) n (omega (arith, u.before)) agrees.touch);
+      }
+
+  moved : ((j : ℕ) → j ≤ n → is_finished new j ≡ true → is_finished old j ≡ true) → StandsUpTo p b blob' new n
+  moved marks = record {
+    updates = update_moved;
+    rows = λ j r le fin has. rw (same j le)
+        (wide.nodes (key_in a blob j r) (node_of p (extents old.updates) j r) (s.rows j r (marks j le fin) (agrees.back j r le has)) ∙ ap {B = Option Node} Some (sym (agrees.node j r le)));
+    folds = λ j i le fin has anew. rw (same j le)
+        (wide.folded (origin a blob j) j i (page_bytes p old.updates j i) (s.folds j i (marks j le fin) (agrees.back j (page_range p i) le has) (sym (agrees.anew j i le) ∙ anew))
+        ∙ ap {B = Option (List ℕ)} Some (sym (agrees.page j i le)));
+  }
 
 -- a blob that a step leaves alone
 blob_kept : (p : ℕ) (a b : World) (blob : ℕ) (x : Blob) → Wider a b → ((j : ℕ) → origin b blob j ≡ origin a blob j) → BlobStands p a blob x → BlobStands p b blob x
-blob_kept p a b blob x wide same s = record {
-  replay = s.replay;
-  marks = s.marks;
-  own = λ j lt. same j ∙ s.own j lt;
-  updates = λ j some le. update_moved p a b blob blob x x (assigned x) j wide (agree_same p x.updates (assigned x)) some le (same j) (s.updates j some le) (s.updates j some le).front;
-  rows = λ j r fin has. rows_moved p a b blob blob x x j j r wide (agree_same p x.updates j) (omega arith) (same j) (s.rows j r fin has);
-  folds = λ j i fin has anew. folds_moved p a b blob blob x x j j i wide (agree_same p x.updates j) (omega arith) (same j) (s.folds j i fin has anew);
-}
+blob_kept p a b blob x wide same s =
+    blob_stands p b blob x s.replay s.marks (λ j lt. same j ∙ s.own j lt)
+    (moved p a b blob blob x x (assigned x) wide (agree_same p x.updates (assigned x)) (λ j le. same j) s (omega arith) (λ m j lt le upto. upto) (λ j le fin. fin))
 
--- ---- a page
+-- ---- a page, a node, or a page that is stored anew, is put
+put_more : (p : ℕ) (w : World) (pages : List (ℕ × List ℕ)) (nodes : List (NodeKey × Node)) (folded : List (FoldKey × List ℕ)) → Stands p w
+    → Wider w (record w { pages = pages; nodes = nodes; folded = folded }) → SmallPages p pages
+    → ((key : NodeKey) (n : Node) → node_at nodes key ≡ Some n → (IsRowNode p w key n × FoldIsThere p w key) ⊎ (node_at w.nodes key ≡ Some n))
+    → ((blob version page : ℕ) (bytes : List ℕ) → fold_at folded blob version page ≡ Some bytes → IsFoldPage p w blob version page bytes ⊎ (fold_at w.folded blob version page ≡ Some bytes))
+    → Stands p (record w { pages = pages; nodes = nodes; folded = folded })
+put_more p w pages nodes folded s wide small new anew =
+    let v : World = record w { pages = pages; nodes = nodes; folded = folded } in
+    stands_on p w v wide (forward_same p w v (λ blob old e. e)) s s.lineage small (λ blob version kept e. inr e)
+    (λ blob b e. blob_kept p w v blob b wide (λ j. refl) (s.blobs blob b e)) new anew
+
 pub page_put : (p : ℕ) (w : World) (page : ℕ) (bytes : List ℕ) → Stands p w → page_at w.pages page ≡ None → 1 ≤ length bytes → length bytes ≤ p
     → Stands p (record w { pages = (page, bytes) ∷ w.pages })
 page_put p w page bytes s none some small =
-    let v : World = record w { pages = (page, bytes) ∷ w.pages } in
-    let wide : Wider w v = record {
+    let P : List ℕ → Type 0 = λ l. (1 ≤ length l) × (length l ≤ p) in
+    put_more p w ((page, bytes) ∷ w.pages) w.nodes w.folded s
+    (record {
       pages = λ n b is. entry_kept same_number w.pages page bytes n b (number_means page n) none is;
       updates = λ blob version kept is. is;
       nodes = λ key n is. is;
       folded = λ blob version fold b is. is;
-    } in
-    let on : Forward p w v = forward_same p w v (λ blob old e. e) in
-    let P : List ℕ → Type 0 = λ l. (1 ≤ length l) × (length l ≤ p) in
-    record {
-      lineage = s.lineage;
-      pages = λ n b is. elim (entry_old same_number w.pages page bytes n b (number_means page n) is) [ inl new ↦ subst P new.1 (some, small) | inr old ↦ s.pages n b old ];
-      known = λ blob version kept is. s.known blob version kept is;
-      blobs = λ blob b is. blob_kept p w v blob b wide (λ j. refl) (s.blobs blob b is);
-      nodes = λ key n is. row_moved p w v key n on (s.nodes key n is);
-      folds = λ blob version fold bytes is. fold_moved p w v blob version fold bytes on (s.folds blob version fold bytes is);
-      anew = λ key n is. there_moved p w v key n on wide (s.nodes key n is) (s.anew key n is);
-    }
+    })
+    (λ n b is. elim (entry_old same_number w.pages page bytes n b (number_means page n) is) [ inl new ↦ subst P new.1 (some, small) | inr old ↦ s.pages n b old ])
+    (λ key n is. inr is) (λ blob version fold b is. inr is)
 
--- ---- a node
-pub put_node : (p : ℕ) (w : World) (key : NodeKey) (n : Node) → Stands p w → node_at w.nodes key ≡ None → IsRowNode p w key n → FoldIsThere p w key
+put_node : (p : ℕ) (w : World) (key : NodeKey) (n : Node) → Stands p w → node_at w.nodes key ≡ None → IsRowNode p w key n → FoldIsThere p w key
     → Stands p (record w { nodes = (key, n) ∷ w.nodes })
 put_node p w key n s none row fresh =
-    let v : World = record w { nodes = (key, n) ∷ w.nodes } in
-    let wide : Wider w v = record {
+    let P : NodeKey → Node → Type 0 = λ k m. IsRowNode p w k m × FoldIsThere p w k in
+    let K : NodeKey → Type 0 = λ k. P k n in
+    put_more p w w.pages ((key, n) ∷ w.nodes) w.folded s
+    (record {
       pages = λ m b is. is;
       updates = λ blob version kept is. is;
       nodes = λ k m is. entry_kept same_key w.nodes key n k m (key_means key k) none is;
       folded = λ blob version page bytes is. is;
-    } in
-    let on : Forward p w v = forward_same p w v (λ blob old e. e) in
-    let K : NodeKey → Type 0 = λ k. IsRowNode p w k n in
-    record {
-      lineage = s.lineage;
-      pages = s.pages;
-      known = λ blob version kept is. s.known blob version kept is;
-      blobs = λ blob b is. blob_kept p w v blob b wide (λ j. refl) (s.blobs blob b is);
-      nodes = λ k m is.
-          elim (entry_old same_key w.nodes key n k m (key_means key k) is) [
-            | inl new ↦ (let N : Node → Type 0 = λ x. IsRowNode p w k x in row_moved p w v k m on (subst N new.1 (subst K new.0 row)))
-            | inr old ↦ row_moved p w v k m on (s.nodes k m old)
-          ];
-      folds = λ blob version fold bytes is. fold_moved p w v blob version fold bytes on (s.folds blob version fold bytes is);
-      anew = λ k m is.
-          elim (entry_old same_key w.nodes key n k m (key_means key k) is) [
-            | inl new ↦ (let T : NodeKey → Type 0 = λ x. FoldIsThere p w x in there_moved p w v k n on wide (subst K new.0 row) (subst T new.0 fresh))
-            | inr old ↦ there_moved p w v k m on wide (s.nodes k m old) (s.anew k m old)
-          ];
-    }
+    })
+    s.pages
+    (λ k m is. elim (entry_old same_key w.nodes key n k m (key_means key k) is) [ inl new ↦ inl (subst (P k) new.1 (subst K new.0 (row, fresh))) | inr old ↦ inr old ])
+    (λ blob version fold b is. inr is)
 
--- ---- a page that is stored anew
 pub put_fold : (p : ℕ) (w : World) (blob version page : ℕ) (bytes : List ℕ) → Stands p w → fold_at w.folded blob version page ≡ None → IsFoldPage p w blob version page bytes
     → Stands p (record w { folded = (record { blob = blob; version = version; page = page }, bytes) ∷ w.folded })
 put_fold p w blob version page bytes s none x =
-    let key : FoldKey = record { blob = blob; version = version; page = page } in
-    let v : World = record w { folded = (key, bytes) ∷ w.folded } in
-    let wide : Wider w v = record {
+    let key : ℕ → ℕ → ℕ → FoldKey = λ id ver i. record { blob = id; version = ver; page = i } in
+    let P : FoldKey → List ℕ → Type 0 = λ k l. IsFoldPage p w k.blob k.version k.page l in
+    let K : FoldKey → Type 0 = λ k. P k bytes in
+    put_more p w w.pages w.nodes ((key blob version page, bytes) ∷ w.folded) s
+    (record {
       pages = λ m b is. is;
       updates = λ id ver kept is. is;
       nodes = λ k m is. is;
-      folded = λ id ver i b is. entry_kept same_fold w.folded key bytes (record { blob = id; version = ver; page = i }) b (fold_means key (record { blob = id; version = ver; page = i })) none is;
-    } in
-    let on : Forward p w v = forward_same p w v (λ id old e. e) in
-    record {
-      lineage = s.lineage;
-      pages = s.pages;
-      known = λ id ver kept is. s.known id ver kept is;
-      blobs = λ id b is. blob_kept p w v id b wide (λ j. refl) (s.blobs id b is);
-      nodes = λ k m is. row_moved p w v k m on (s.nodes k m is);
-      folds = λ id ver i b is.
-          elim (entry_old same_fold w.folded key bytes (record { blob = id; version = ver; page = i }) b (fold_means key (record { blob = id; version = ver; page = i })) is) [
-            | inl new ↦
-                (let K : FoldKey → Type 0 = λ k. IsFoldPage p v k.blob k.version k.page bytes in
-                let B : List ℕ → Type 0 = λ l. IsFoldPage p v id ver i l in
-                subst B new.1 (subst K new.0 (fold_moved p w v blob version page bytes on x)))
-            | inr old ↦ fold_moved p w v id ver i b on (s.folds id ver i b old)
-          ];
-      anew = λ k m is. there_moved p w v k m on wide (s.nodes k m is) (s.anew k m is);
-    }
+      folded = λ id ver i b is. entry_kept same_fold w.folded (key blob version page) bytes (key id ver i) b (fold_means (key blob version page) (key id ver i)) none is;
+    })
+    s.pages (λ k m is. inr is)
+    (λ id ver i b is.
+    elim (entry_old same_fold w.folded (key blob version page) bytes (key id ver i) b (fold_means (key blob version page) (key id ver i)) is) [
+      | inl new ↦ inl (subst (P (key id ver i)) new.1 (subst K new.0 x))
+      | inr old ↦ inr old
+    ])
 
 pub rows_known : (p : ℕ) (w : World) (blob : ℕ) (b : Blob) (n : ℕ) → BlobStands p w blob b → n ≤ published b → RowsKnown p w blob b.updates n
 rows_known p w blob b n s le j r upto has = s.rows j r (published_finished b j (omega arith)) has
@@ -290,130 +288,94 @@ pub node_put : (c : Cited) (p : ℕ) (w : World) (key : NodeKey) (b : Blob) → 
     → ((page : ℕ) → key.range ≡ page_range p page → IsFolded p w key.blob key.version b page → IsKnown (fold_at w.folded key.blob key.version page))
     → Stands p (record w { nodes = with_node p w key })
 node_put c p w key b pos s numbered has folded =
-    let blob_s : BlobStands p w key.blob b = s.blobs key.blob b numbered.there in
-    let u : UpdateStands p w key.blob b key.version = blob_s.updates key.version numbered.some numbered.upto in
-    let At : ℕ → Type 0 = λ o. kept_at w.updates o key.version ≡ Some u.kept in
-    let there : kept_at w.updates key.blob key.version ≡ Some u.kept = subst At numbered.own u.there in
-    let new : Node = woven p w key.blob b u.kept key.version key.range in
-    let W : List (NodeKey × Node) → Type 0 = λ l. Stands p (record w { nodes = l }) in
+    let bs : BlobStands p w key.blob b = s.blobs key.blob b numbered.there in
+    let u : UpdateStands p w key.blob b key.version = bs.updates key.version numbered.some numbered.upto in
+    let there : kept_at w.updates key.blob key.version ≡ Some u.kept = rw numbered.own at u.there in
+    let ok : InBounds (extents b.updates) = in_bounds c b.updates bs.replay in
+    let known : RowsKnown p w key.blob b.updates u.kept.published = rows_known p w key.blob b u.kept.published bs u.front in
     elim (with_node_is p w key b u.kept numbered.there there (node_at w.nodes key) refl) [
-      | inl same ↦ subst W (sym same) s
+      | inl same ↦ rw same s
       | inr put ↦
-          subst W (sym put.1)
-          (put_node p w key new s put.0 (record {
+          rw put.1
+          (put_node p w key (woven p w key.blob b u.kept key.version key.range) s put.0 (record {
             b = b;
             there = numbered.there;
             has = has;
-            is = woven_is c p w key.blob b u.kept key.version key.range pos (in_bounds c b.updates blob_s.replay) (rows_known p w key.blob b u.kept.published blob_s u.front)
-                u.before u.waiting numbered.upto has.aligned;
+            is = woven_is c p w key.blob b u.kept key.version key.range pos ok known u.before u.waiting numbered.upto has.aligned;
           })
           (λ x at i same anew.
           (let eq : x ≡ b = one_value (blob_at w.store key.blob) x b at numbered.there in
-          let M : Range → Type 0 = λ r. Meets p (touch_at (log_of p b.updates) key.version) r in
           folded i same (record {
             kept = u.kept;
             there = there;
-            met = subst M same has.met;
-            anew = woven_folded_is c p w key.blob b u.kept key.version pos (in_bounds c b.updates blob_s.replay) (rows_known p w key.blob b u.kept.published blob_s u.front)
-                u.before u.waiting numbered.upto i
+            met = rw same at has.met;
+            anew = woven_folded_is c p w key.blob b u.kept key.version pos ok known u.before u.waiting numbered.upto i
                 ∙ sym (ap (λ (y : Blob). folded_of p (extents y.updates) key.version i) eq)
                 ∙ anew;
           }))))
     ]
 
 -- ---- a change of one blob
-pub blob_set : (p : ℕ) (w : World) (t : Store) (updates : List (UpdateKey × UpdateEntry)) (blob : ℕ) (before new : Blob) → Stands p w → Wider w (record w { store = t; updates = updates })
-    → blob_at w.store blob ≡ Some before → t ≡ with_blob w.store blob new → Agrees p before.updates new.updates (assigned before) → assigned before ≤ assigned new
-    → ((id version : ℕ) (kept : UpdateEntry) → kept_at updates id version ≡ Some kept → IsOfBlob (record w { store = t; updates = updates }) id version ⊎ (kept_at w.updates id version ≡ Some kept))
-    → BlobStands p (record w { store = t; updates = updates }) blob new → Stands p (record w { store = t; updates = updates })
-blob_set p w t updates blob before new s wide is store agrees more known stands =
-    let v : World = record w { store = t; updates = updates } in
-    let B : Store → ℕ → Blob → Type 0 = λ x id b. blob_at x id ≡ Some b in
-    let out : (id : ℕ) (b : Blob) → blob_at v.store id ≡ Some b → blob_at (with_blob w.store blob new) id ≡ Some b = λ id b e.
-    (let P : Store → Type 0 = λ x. B x id b in subst P store e) in
-    let back : (id : ℕ) (b : Blob) → blob_at (with_blob w.store blob new) id ≡ Some b → blob_at v.store id ≡ Some b = λ id b e.
-    (let P : Store → Type 0 = λ x. B x id b in subst P (sym store) e) in
+blob_set : (p : ℕ) (w : World) (updates : List (UpdateKey × UpdateEntry)) (blob : ℕ) (before new : Blob) → Stands p w
+    → Wider w (record w { store = with_blob w.store blob new; updates = updates }) → blob_at w.store blob ≡ Some before
+    → Agrees p before.updates new.updates (assigned before) → assigned before ≤ assigned new
+    → ((id version : ℕ) (kept : UpdateEntry) → kept_at updates id version ≡ Some kept
+    → IsOfBlob (record w { store = with_blob w.store blob new; updates = updates }) id version ⊎ (kept_at w.updates id version ≡ Some kept))
+    → BlobStands p (record w { store = with_blob w.store blob new; updates = updates }) blob new → Stands p (record w { store = with_blob w.store blob new; updates = updates })
+blob_set p w updates blob before new s wide is agrees more known stands =
+    let v : World = record w { store = with_blob w.store blob new; updates = updates } in
     let on : Forward p w v = λ id old e.
     elim (with_on w.store blob before new is id old e) [
       | inl same ↦
-          (let I : ℕ → Type 0 = λ i. blob_at w.store i ≡ Some old in
-          let E : Blob → Type 0 = λ x. Agrees p x.updates new.updates (assigned x) in
-          let L : Blob → Type 0 = λ x. assigned x ≤ assigned new in
-          let eq : before ≡ old = one_value (blob_at w.store blob) before old is (subst I same e) in
-          let J : ℕ → Type 0 = λ i. blob_at v.store i ≡ Some new in
-          (new, subst J (sym same) (back blob new (with_new w.store blob before new is)), subst E eq agrees, subst L eq more))
-      | inr other ↦ (old, back id old other, agree_same p old.updates (assigned old), omega arith)
+          (let eq : before ≡ old = one_value (blob_at w.store blob) before old is (rw same at e) in
+          (new, rw same (blob_at-with w.store blob before new is), rw (← eq) agrees, rw (← eq) more))
+      | inr other ↦ (old, other, agree_same p old.updates (assigned old), omega arith)
     ] in
-    let count : length v.store.blobs ≡ length w.store.blobs = ap (λ (x : Store). length x.blobs) store ∙ length-set w.store.blobs (blob - 1) new in
-    record {
-      lineage = s.lineage ∙ sym count;
-      pages = s.pages;
-      known = λ id version kept e. elim (known id version kept e) [ inl here ↦ here | inr old ↦ of_blob_moved p w v id version on (s.known id version kept old) ];
-      blobs = λ id b e.
-          elim (with_was w.store blob before new is id b (out id b e)) [
-            | inl here ↦
-                (let S : ℕ → Type 0 = λ i. BlobStands p v i new in
-                let T : Blob → Type 0 = λ x. BlobStands p v id x in
-                subst T here.1 (subst S (sym here.0) stands))
-            | inr old ↦ blob_kept p w v id b wide (λ j. refl) (s.blobs id b old)
-          ];
-      nodes = λ key n e. row_moved p w v key n on (s.nodes key n e);
-      folds = λ id version page bytes e. fold_moved p w v id version page bytes on (s.folds id version page bytes e);
-      anew = λ key n e. there_moved p w v key n on wide (s.nodes key n e) (s.anew key n e);
-    }
+    stands_on p w v wide on s (s.lineage ∙ sym (length-set w.store.blobs (blob - 1) new)) s.pages known
+    (λ id b e.
+    elim (with_was w.store blob before new is id b e) [
+      | inl here ↦ rw (here.0, ← here.1) stands
+      | inr old ↦ blob_kept p w v id b wide (λ j. refl) (s.blobs id b old)
+    ])
+    (λ key n e. inr e) (λ id version page bytes e. inr e)
 
 -- ---- a finish
 pub finished : (c : Cited) (p : ℕ) (w : World) (t : Store) (blob version : ℕ) (b : Blob) → 1 ≤ p → Stands p w → IsNumberedIn w blob version b → RowIsThere p w blob version b
     → t ≡ with_blob w.store blob (finish b version)
     → Stands p (record w { store = t })
 finished c p w t blob version b pos s numbered row store =
-    let v : World = record w { store = t } in
+    let us = extents b.updates in
+    let new : Blob = finish b version in
+    let v : World = record w { store = with_blob w.store blob new } in
     let old : BlobStands p w blob b = s.blobs blob b numbered.there in
-    let wide : Wider w v = wider_same w t w.lineage in
-    let ok : InBounds (extents b.updates) = in_bounds c b.updates old.replay in
-    let grown : published b ≤ published (finish b version) = true_prefix-set b.finished (version - 1) in
-    let here : (r : Range) → HasNode p (log_of p b.updates) version r → node_in v blob version r ≡ Some (node_of p (extents b.updates) version r) = λ r has.
-    (let in_list : version ≤ length (extents b.updates) = omega (arith, numbered.upto, (c.stand b.updates old.replay).1) in
-    let (n, is) = row r ((c.exact p version (extents b.updates) r pos ok numbered.some in_list).1 has) in
-    let r' : IsRowNode p w (record { blob = blob; version = version; range = r }) n = s.nodes (record { blob = blob; version = version; range = r }) n is in
-    let same : r'.b ≡ b = one_value (blob_at w.store blob) r'.b b r'.there numbered.there in
-    let some : Node → Option Node = λ x. Some x in
-    let At : ℕ → Type 0 = λ o. node_at w.nodes (record { blob = o; version = version; range = r }) ≡ Some (node_of p (extents b.updates) version r) in
-    subst At (sym numbered.own) (is ∙ ap some (r'.is ∙ ap (λ (x : Blob). node_of p (extents x.updates) version r) same))) in
-    let fold_here : (i : ℕ) → HasNode p (log_of p b.updates) version (page_range p i) → folded_of p (extents b.updates) version i ≡ true
+    let wide : Wider w v = wider_same w v.store w.lineage in
+    let grown : published b ≤ published new = true_prefix-set b.finished (version - 1) in
+    let in_list : version ≤ length us = omega (arith, numbered.upto, (c.stand b.updates old.replay).1) in
+    let node : (r : Range) → HasNode p (log_of p b.updates) version r → IsKnown (node_at w.nodes (record { blob = blob; version = version; range = r })) = λ r has.
+    row r ((c.exact p version us r pos (in_bounds c b.updates old.replay) numbered.some in_list).1 has) in
+    let here : (r : Range) → HasNode p (log_of p b.updates) version r → node_in v blob version r ≡ Some (node_of p us version r) = λ r has.
+    (let (n, is) = node r has in
+    let x : IsRowNode p w (record { blob = blob; version = version; range = r }) n = s.nodes (record { blob = blob; version = version; range = r }) n is in
+    let same : x.b ≡ b = one_value (blob_at w.store blob) x.b b x.there numbered.there in
+    rw numbered.own (is ∙ ap {B = Option Node} Some (x.is ∙ ap (λ (y : Blob). node_of p (extents y.updates) version r) same))) in
+    let fold_here : (i : ℕ) → HasNode p (log_of p b.updates) version (page_range p i) → folded_of p us version i ≡ true
     → fold_at v.folded (origin v blob version) version i ≡ Some (page_bytes p b.updates version i) = λ i has anew.
-    (let r : Range = page_range p i in
-    let in_list : version ≤ length (extents b.updates) = omega (arith, numbered.upto, (c.stand b.updates old.replay).1) in
-    let (n, is) = row r ((c.exact p version (extents b.updates) r pos ok numbered.some in_list).1 has) in
-    let (bytes, e) = s.anew (record { blob = blob; version = version; range = r }) n is b numbered.there i refl anew in
+    (let (n, is) = node (page_range p i) has in
+    let (bytes, e) = s.anew (record { blob = blob; version = version; range = page_range p i }) n is b numbered.there i refl anew in
     let x : IsFoldPage p w blob version i bytes = s.folds blob version i bytes e in
     let same : x.b ≡ b = one_value (blob_at w.store blob) x.b b x.there numbered.there in
-    let some : List ℕ → Option (List ℕ) = λ l. Some l in
-    let At : ℕ → Type 0 = λ o. fold_at w.folded o version i ≡ Some (page_bytes p b.updates version i) in
-    subst At (sym numbered.own) (e ∙ ap some (x.is ∙ ap (λ (y : Blob). page_bytes p y.updates version i) same))) in
-    blob_set p w t w.updates blob b (finish b version) s wide numbered.there store (agree_same p b.updates (assigned b)) (omega arith) (λ id ver kept e. inr e)
+    rw numbered.own (e ∙ ap {B = Option (List ℕ)} Some (x.is ∙ ap (λ (y : Blob). page_bytes p y.updates version i) same))) in
+    rw store
+    (blob_set p w w.updates blob b new s wide numbered.there (agree_same p b.updates (assigned b)) (omega arith) (λ id ver kept e. inr e)
     (record {
       replay = old.replay;
       marks = length-set b.finished (version - 1) true ∙ old.marks;
-      own = λ j lt. old.own j lt;
-      updates = λ j some le.
-          update_moved p w v blob blob b (finish b version) (assigned b) j wide (agree_same p b.updates (assigned b)) some le refl (old.updates j some le) (omega (arith, grown, (old.updates j some le).front));
-      rows = λ j r fin has.
-          elim (finished_set b version j numbered.some fin) [
-            | inl same ↦
-                (let P : ℕ → Type 0 = λ i. HasNode p (log_of p b.updates) i r → node_in v blob i r ≡ Some (node_of p (extents b.updates) i r) in
-                subst P (sym same) (here r) has)
-            | inr was ↦ old.rows j r was has
-          ];
+      own = old.own;
+      updates = update_moved p w v blob blob b new (assigned b) wide (agree_same p b.updates (assigned b)) (λ j le. refl) old (omega arith) (λ m j lt le upto. omega arith);
+      rows = λ j r fin has. elim (finished_set b version j numbered.some fin) [ inl same ↦ rw same (here r (rw same at has)) | inr was ↦ old.rows j r was has ];
       folds = λ j i fin has anew.
-          elim (finished_set b version j numbered.some fin) [
-            | inl same ↦
-                (let P : ℕ → Type 0 = λ k. HasNode p (log_of p b.updates) k (page_range p i) → folded_of p (extents b.updates) k i ≡ true
-                → fold_at v.folded (origin v blob k) k i ≡ Some (page_bytes p b.updates k i) in
-                (subst P (sym same) (fold_here i)) has anew)
-            | inr was ↦ old.folds j i was has anew
-          ];
-    })
+          elim (finished_set b version j numbered.some fin) [ inl same ↦ rw same (fold_here i (rw same at has) (rw same at anew)) | inr was ↦ old.folds j i was has anew ];
+    }))
 
 -- ---- a numbering
 pub with_update_is : (p : ℕ) (w : World) (blob : ℕ) (pages : List ℕ) (b : Blob) → blob_at w.store blob ≡ Some b
@@ -429,15 +391,10 @@ next_free p w blob b s is (Some kept) e =
     let same : assigned x ≡ assigned b = ap (λ (y : Blob). assigned y) (one_value (blob_at w.store blob) x b at is) in
     absurd (omega arith)
 
-past_marks : (bs : List Bool) (i : ℕ) → length bs ≤ i → slice_index_or bs i false ≡ true → ⊥
-past_marks [] i le e = cc
-past_marks (b ∷ bs) zero le e = absurd (omega arith)
-past_marks (b ∷ bs) (suc i) le e = past_marks bs i (omega arith) e
-
 -- what isn't numbered isn't finished
 not_marked : (b : Blob) (j : ℕ) → length b.finished ≡ length b.updates → assigned b < j → is_finished b j ≡ true → ⊥
 not_marked b zero marks lt e = absurd (omega arith)
-not_marked b (suc j) marks lt e = past_marks b.finished j (omega arith) (sym (finished_at b j) ∙ e)
+not_marked b (suc j) marks lt e = (let no : false ≡ true = sym (get_or_past b.finished j false (omega arith)) ∙ sym (finished_at b j) ∙ e in cc)
 
 pub numbered : (c : Cited) (p : ℕ) (w : World) (t : Store) (blob : ℕ) (b : Blob) (u : Update) (pages : List ℕ) → Stands p w → blob_at w.store blob ≡ Some b
     → AreCut p w.pages pages → bytes_of_pages w.pages pages ≡ u.bytes → 1 ≤ length u.bytes → offset_of u.place (size_now b) ≤ size_now b
@@ -446,46 +403,43 @@ pub numbered : (c : Cited) (p : ℕ) (w : World) (t : Store) (blob : ℕ) (b : B
 numbered c p w t blob b u pages s is cut bytes some fits store =
     let n : ℕ = assigned b in
     let new : Blob = and_update b u in
-    let key : UpdateKey = record { blob = blob; version = n + 1 } in
+    let at : ℕ → ℕ → UpdateKey = λ id version. record { blob = id; version = version } in
+    let key : UpdateKey = at blob (n + 1) in
     let kept : UpdateEntry = next_kept p b pages in
-    let updates : List (UpdateKey × UpdateEntry) = (key, kept) ∷ w.updates in
-    let v : World = record w { store = t; updates = updates } in
+    let v : World = record w { store = with_blob w.store blob new; updates = (key, kept) ∷ w.updates } in
     let old : BlobStands p w blob b = s.blobs blob b is in
     let free : kept_at w.updates blob (n + 1) ≡ None = next_free p w blob b s is (kept_at w.updates blob (n + 1)) refl in
     let wide : Wider w v = record {
-      pages = λ m x e. e;
-      updates = λ id version k e. entry_kept same_update w.updates key kept (record { blob = id; version = version }) k (update_means key (record { blob = id; version = version })) free e;
-      nodes = λ k m e. e;
-      folded = λ id version page x e. e;
+      pages = λ m b is. is;
+      updates = λ id version k e. entry_kept same_update w.updates key kept (at id version) k (update_means key (at id version)) free e;
+      nodes = λ k m is. is;
+      folded = λ id version page x is. is;
     } in
     let agrees : Agrees p b.updates new.updates n = agree_more c p b.updates (u ∷ []) in
     let count : assigned new ≡ n + 1 = length-append b.updates (u ∷ []) in
-    let here : blob_at v.store blob ≡ Some new = (let P : Store → Type 0 = λ x. blob_at x blob ≡ Some new in subst P (sym store) (with_new w.store blob b new is)) in
+    let here : blob_at v.store blob ≡ Some new = blob_at-with w.store blob b new is in
     let grown : published b ≤ published new = true_prefix-append b.finished (false ∷ []) in
     let within : published b ≤ n = published_within p w blob b old in
-    let last : (j : ℕ) → j ≡ suc n → UpdateStands p v blob new j = λ j e.
-    (let own : origin v blob (suc n) ≡ blob = old.own (suc n) (omega arith) in
-    let At : ℕ → ℕ → Type 0 = λ o i. kept_at updates o i ≡ Some kept in
-    let J : ℕ → Type 0 = λ i. UpdateStands p v blob new i in
-    let O : ℕ → Type 0 = λ o. At o (suc n) in
-    let I : ℕ → Type 0 = λ i. At blob i in
-    let plus : n + 1 ≡ suc n = omega arith in
-    let less : suc n - 1 - published b ≡ n - published b = omega arith in
-    subst J (sym e) (record {
+    let last : (j : ℕ) → j ≡ n + 1 → UpdateStands p v blob new j = λ j e.
+    (let own : origin v blob j ≡ blob = old.own j (omega arith) in
+    let after : n + 1 ≡ suc n = omega arith in
+    let less : j - 1 - published b ≡ n - published b = omega arith in
+    record {
       kept = kept;
-      there = subst O (sym own) (subst I plus (entry_new same_update w.updates key kept (update_itself key)));
+      there = rw (own, e) (entry_new same_update w.updates key kept (update_itself key));
       cut = cut;
-      bytes = bytes ∙ ap (λ (x : Update). x.bytes) (sym (update_next b.updates u));
+      bytes = bytes ∙ ap (λ (x : Update). x.bytes) (sym (update_next b.updates u)) ∙ ap (λ (i : ℕ). (update_at new.updates i).bytes) (sym (e ∙ after));
       before = omega arith;
       front = grown;
-      waiting = sym (waiting_same (log_of p b.updates) (log_of p new.updates) (published b) (n - published b) n (omega arith) agrees.touch)
-          ∙ ap (λ (m : ℕ). waiting_after (log_of p new.updates) (published b) m) (sym less);
-    })) in
-    let W : List (UpdateKey × UpdateEntry) → Type 0 = λ l. Stands p (record w { store = t; updates = l }) in
-    subst W (sym (with_update_is p w blob pages b is))
-    (blob_set p w t updates blob b new s wide is store agrees (omega arith)
+      waiting = rw less (sym (waiting_same (log_of p b.updates) (log_of p new.updates) (published b) (n - published b) n (omega arith) agrees.touch));
+    }) in
+    let m : StandsUpTo p v blob new n = moved p w v blob blob b new n wide agrees (λ j le. refl) old (omega arith) (λ m j lt le upto. omega arith) (λ j le fin. finished_next b u j fin) in
+    let upto : (j : ℕ) → is_finished new j ≡ true → j ≤ n = λ j fin.
+    elim (cases_lt n j) [ inl after ↦ absurd (not_marked b j old.marks (omega arith) (finished_next b u j fin)) | inr before ↦ before ] in
+    rw (with_update_is p w blob pages b is, store)
+    (blob_set p w v.updates blob b new s wide is agrees (omega arith)
     (λ id version k e.
-    elim (entry_old same_update w.updates key kept (record { blob = id; version = version }) k (update_means key (record { blob = id; version = version })) e) [
+    elim (entry_old same_update w.updates key kept (at id version) k (update_means key (at id version)) e) [
       | inl eq ↦
           (let P : UpdateKey → Type 0 = λ x. IsOfBlob v x.blob x.version in
           inl (subst P eq.0 (new, here, omega arith)))
@@ -495,59 +449,31 @@ numbered c p w t blob b u pages s is cut bytes some fits store =
       replay = replay_next b.updates u old.replay fits some;
       marks = length-append b.finished (false ∷ []) ∙ ap (λ (m : ℕ). m + 1) old.marks ∙ sym count;
       own = λ j lt. old.own j (omega arith);
-      updates = λ j one le.
-          elim (cases_lt n j) [
-            | inl after ↦ last j (omega arith)
-            | inr before ↦ update_moved p w v blob blob b new n j wide agrees one before refl (old.updates j one before) (omega (arith, grown, (old.updates j one before).front))
-          ];
-      rows = λ j r fin has.
-          elim (cases_lt n j) [
-            | inl after ↦
-                (let unmarked : is_finished b j ≡ true = finished_next b u j fin in absurd (not_marked b j old.marks (omega arith) unmarked))
-            | inr before ↦ rows_moved p w v blob blob b new n j r wide agrees before refl (old.rows j r (finished_next b u j fin) (agrees.back j r before has))
-          ];
-      folds = λ j i fin has anew.
-          elim (cases_lt n j) [
-            | inl after ↦
-                (let unmarked : is_finished b j ≡ true = finished_next b u j fin in absurd (not_marked b j old.marks (omega arith) unmarked))
-            | inr before ↦ folds_moved p w v blob blob b new n j i wide agrees before refl
-                (old.folds j i (finished_next b u j fin) (agrees.back j (page_range p i) before has) (sym (agrees.anew j i before) ∙ anew))
-          ];
+      updates = λ j one le. elim (cases_lt n j) [ inl after ↦ last j (omega arith) | inr before ↦ m.updates j one before ];
+      rows = λ j r fin has. m.rows j r (upto j fin) fin has;
+      folds = λ j i fin has anew. m.folds j i (upto j fin) fin has anew;
     }))
 
 -- ---- a new blob
-pub blob_added : (p : ℕ) (w : World) (t : Store) (parent : Option Parent) (new : Blob) → Stands p w → t ≡ and_blob w.store new
-    → BlobStands p (record w { store = t; lineage = parent ∷ w.lineage }) (suc (length w.lineage)) new
-    → Stands p (record w { store = t; lineage = parent ∷ w.lineage })
-blob_added p w t parent new s store stands =
-    let v : World = record w { store = t; lineage = parent ∷ w.lineage } in
-    let wide : Wider w v = wider_same w t (parent ∷ w.lineage) in
-    let out : (id : ℕ) (b : Blob) → blob_at t id ≡ Some b → blob_at (and_blob w.store new) id ≡ Some b = λ id b e. (let P : Store → Type 0 = λ x. blob_at x id ≡ Some b in subst P store e) in
-    let back : (id : ℕ) (b : Blob) → blob_at (and_blob w.store new) id ≡ Some b → blob_at t id ≡ Some b = λ id b e. (let P : Store → Type 0 = λ x. blob_at x id ≡ Some b in subst P (sym store) e) in
-    let on : Forward p w v = forward_same p w v (λ id old e. back id old (more_kept w.store new id old e)) in
-    let count : length t.blobs ≡ length w.store.blobs + 1 = ap (λ (x : Store). length x.blobs) store ∙ length-append w.store.blobs (new ∷ []) in
-    record {
-      lineage = omega (arith, s.lineage, count);
-      pages = s.pages;
-      known = λ id version kept e. of_blob_moved p w v id version on (s.known id version kept e);
-      blobs = λ id b e.
-          elim (more_was w.store new id b (out id b e)) [
-            | inl here ↦
-                (let at : suc (length w.lineage) ≡ id = omega (arith, s.lineage, here.0) in
-                let I : ℕ → Type 0 = λ i. BlobStands p v i new in
-                let B : Blob → Type 0 = λ x. BlobStands p v id x in
-                subst B here.1 (subst I at stands))
-            | inr old ↦ blob_kept p w v id b wide (λ j. origin_older parent w.lineage id j (omega (arith, s.lineage, (blob_some w.store id b old).1))) (s.blobs id b old)
-          ];
-      nodes = λ key n e. row_moved p w v key n on (s.nodes key n e);
-      folds = λ id version page bytes e. fold_moved p w v id version page bytes on (s.folds id version page bytes e);
-      anew = λ key n e. there_moved p w v key n on wide (s.nodes key n e) (s.anew key n e);
-    }
+blob_added : (p : ℕ) (w : World) (parent : Option Parent) (new : Blob) → Stands p w
+    → BlobStands p (record w { store = and_blob w.store new; lineage = parent ∷ w.lineage }) (suc (length w.lineage)) new
+    → Stands p (record w { store = and_blob w.store new; lineage = parent ∷ w.lineage })
+blob_added p w parent new s stands =
+    let v : World = record w { store = and_blob w.store new; lineage = parent ∷ w.lineage } in
+    let wide : Wider w v = wider_same w v.store v.lineage in
+    stands_on p w v wide (forward_same p w v (λ id old e. more_kept w.store new id old e)) s (omega (arith, s.lineage, length-append w.store.blobs (new ∷ []))) s.pages (λ id version kept e. inr e)
+    (λ id b e.
+    elim (more_was w.store new id b e) [
+      | inl here ↦ (let at : id ≡ suc (length w.lineage) = omega (arith, s.lineage, here.0) in rw (at, ← here.1) stands)
+      | inr old ↦ blob_kept p w v id b wide (λ j. origin_older parent w.lineage id j (omega (arith, s.lineage, (blob_some w.store id b old).1))) (s.blobs id b old)
+    ])
+    (λ key n e. inr e) (λ id version page bytes e. inr e)
 
 pub created : (p : ℕ) (w : World) (t : Store) → Stands p w → t ≡ and_blob w.store (record { updates = []; finished = [] })
     → Stands p (record w { store = t; lineage = None ∷ w.lineage })
 created p w t s store =
-    blob_added p w t None (record { updates = []; finished = [] }) s store
+    rw store
+    (blob_added p w None (record { updates = []; finished = [] }) s
     (record {
       replay = λ k lt. absurd (omega arith);
       marks = refl;
@@ -555,41 +481,26 @@ created p w t s store =
       updates = λ j some le. absurd (omega arith);
       rows = λ j r fin has. absurd (omega (arith, has.version.0, has.version.1, length_log p []));
       folds = λ j i fin has anew. absurd (omega (arith, has.version.0, has.version.1, length_log p []));
-    })
+    }))
 
 pub branched : (c : Cited) (p : ℕ) (w : World) (t : Store) (blob version : ℕ) (b : Blob) → Stands p w → blob_at w.store blob ≡ Some b → version ≤ published b
     → t ≡ and_blob w.store (branch_of b version)
     → Stands p (record w { store = t; lineage = Some (record { blob = blob; version = version }) ∷ w.lineage })
 branched c p w t blob version b s is le store =
     let q : Parent = record { blob = blob; version = version } in
-    let v : World = record w { store = t; lineage = Some q ∷ w.lineage } in
-    let wide : Wider w v = wider_same w t (Some q ∷ w.lineage) in
+    let new : Blob = branch_of b version in
+    let v : World = record w { store = and_blob w.store new; lineage = Some q ∷ w.lineage } in
     let old : BlobStands p w blob b = s.blobs blob b is in
     let within : version ≤ length b.updates = omega (arith, published_within p w blob b old) in
-    let new : Blob = branch_of b version in
     let count : length new.updates ≡ version = length-take-le version b.updates within in
-    let agrees : Agrees p b.updates new.updates version = agree_front c p b.updates version within in
     let front : published new ≡ version = prefix_all version in
     let id : ℕ = suc (length w.lineage) in
-    let same : (j : ℕ) → j ≤ version → origin v id j ≡ origin w blob j = λ j upto. origin_shared q w.lineage id j refl upto in
-    let R : List Update → Type 0 = λ l. Replayable l in
-    blob_added p w t (Some q) new s store
-    (record {
-      replay = replay_front new.updates _ (subst R (sym (take-append-drop version b.updates)) old.replay);
-      marks = length-replicate version true ∙ sym count;
-      own = λ j lt. origin_own q w.lineage id j refl (omega arith);
-      updates = λ j some upto.
-          (let upto' : j ≤ version = omega arith in
-          let was : UpdateStands p w blob b j = old.updates j some (omega arith) in
-          update_moved p w v blob id b new version j wide agrees some upto' (same j upto') was (omega (arith, was.before)));
-      rows = λ j r fin has.
-          (let upto : j ≤ version = omega (arith, has.version.1, length_log p new.updates, count) in
-          rows_moved p w v blob id b new version j r wide agrees upto (same j upto) (old.rows j r (published_finished b j (omega arith)) (agrees.back j r upto has)));
-      folds = λ j i fin has anew.
-          (let upto : j ≤ version = omega (arith, has.version.1, length_log p new.updates, count) in
-          folds_moved p w v blob id b new version j i wide agrees upto (same j upto)
-          (old.folds j i (published_finished b j (omega arith)) (agrees.back j (page_range p i) upto has) (sym (agrees.anew j i upto) ∙ anew)));
-    })
+    let m : StandsUpTo p v id new version = moved p w v blob id b new version (wider_same w v.store v.lineage) (agree_front c p b.updates version within)
+    (λ j upto. origin_shared q w.lineage id j refl upto) old (omega arith) (λ m j lt upto was. omega arith) (λ j upto fin. published_finished b j (omega arith)) in
+    rw store
+    (blob_added p w (Some q) new s
+    (blob_stands p v id new (replay_front new.updates _ (rw (← take-append-drop version b.updates) at old.replay)) (length-replicate version true ∙ sym count)
+    (λ j lt. origin_own q w.lineage id j refl (omega arith)) (rw count m)))
 
 -- ---- the empty world
 pub none_only : (t : Bool) (b : Blob) → (if t then None else None) ≡ Some b → ⊥

@@ -1,8 +1,9 @@
 -- Lists, finite maps, pages and lineages.
 use Rattle.std.proofs.Common.{◌≡◌, ◌⊎◌, ℕ, ◌+◌, ◌*◌, ◌<◌, ◌≤◌, zero, suc, Bool, true, false, List, [], ◌∷◌, ◌++◌, length, take, drop, arith, inl, inr, refl, ap, sym, subst, ◌∙◌, append-nil}
 use Rattle.std.specs.Prelude.{◌==◌, ◌&&◌, Option, Some, None, slice_get, slice_set, slice_index_or, replicate}
+use Rattle.std.proofs.lemmas.Bool.{and_parts, cases_eq}
 use Rattle.std.proofs.lemmas.Bool.Decides.{nat_tests}
-use Rattle.std.proofs.lemmas.List.{length-append, take_all}
+use Rattle.std.proofs.lemmas.List.{get_or-set_other, length-append, take_all}
 use Rattle.std.proofs.Math.Seq.{take-append_seam, drop-append-add}
 use Rattle.std.proofs.Math.ListN.{drop_of_length-le}
 use Rattle.blob_model.specs.Store.{true_prefix}
@@ -18,10 +19,6 @@ none_some o v a b = cc
 pub one_value : {V : Type 0} (o : Option V) (v w : V) → o ≡ Some v → o ≡ Some w → v ≡ w
 one_value o v w a b = cc
 
-pub and_both : (x y : Bool) → (x && y) ≡ true → (x ≡ true) × (y ≡ true)
-and_both true y e = (refl, e)
-and_both false y e = (let no : ⊥ = cc in absurd no)
-
 number_is : (a b : ℕ) → (a == b) ≡ true → a ≡ b
 number_is a b e = grind (arith, nat_tests)
 
@@ -36,7 +33,7 @@ update_key blob version = record { blob = blob; version = version }
 
 pub update_means : (a b : UpdateKey) → same_update a b ≡ true → a ≡ b
 update_means a b e =
-    let d = and_both (a.blob == b.blob) (a.version == b.version) e in
+    let d = and_parts (a.blob == b.blob) (a.version == b.version) e in
     ap (λ (n : ℕ). update_key n a.version) (number_is a.blob b.blob d.0) ∙ ap (λ (n : ℕ). update_key b.blob n) (number_is a.version b.version d.1)
 
 pub update_itself : (a : UpdateKey) → same_update a a ≡ true
@@ -47,9 +44,9 @@ node_key blob version offset size = record { blob = blob; version = version; ran
 
 pub key_means : (a b : NodeKey) → same_key a b ≡ true → a ≡ b
 key_means a b e =
-    let d = and_both (a.blob == b.blob && a.version == b.version && a.range.offset == b.range.offset) (a.range.size == b.range.size) e in
-    let c = and_both (a.blob == b.blob && a.version == b.version) (a.range.offset == b.range.offset) d.0 in
-    let f = and_both (a.blob == b.blob) (a.version == b.version) c.0 in
+    let d = and_parts (a.blob == b.blob && a.version == b.version && a.range.offset == b.range.offset) (a.range.size == b.range.size) e in
+    let c = and_parts (a.blob == b.blob && a.version == b.version) (a.range.offset == b.range.offset) d.0 in
+    let f = and_parts (a.blob == b.blob) (a.version == b.version) c.0 in
     ap (λ (n : ℕ). node_key n a.version a.range.offset a.range.size) (number_is a.blob b.blob f.0)
     ∙ ap (λ (n : ℕ). node_key b.blob n a.range.offset a.range.size) (number_is a.version b.version f.1)
     ∙ ap (λ (n : ℕ). node_key b.blob b.version n a.range.size) (number_is a.range.offset b.range.offset c.1)
@@ -60,8 +57,8 @@ fold_key blob version page = record { blob = blob; version = version; page = pag
 
 pub fold_means : (a b : FoldKey) → same_fold a b ≡ true → a ≡ b
 fold_means a b e =
-    let d = and_both (a.blob == b.blob && a.version == b.version) (a.page == b.page) e in
-    let c = and_both (a.blob == b.blob) (a.version == b.version) d.0 in
+    let d = and_parts (a.blob == b.blob && a.version == b.version) (a.page == b.page) e in
+    let c = and_parts (a.blob == b.blob) (a.version == b.version) d.0 in
     ap (λ (n : ℕ). fold_key n a.version a.page) (number_is a.blob b.blob c.0)
     ∙ ap (λ (n : ℕ). fold_key b.blob n a.page) (number_is a.version b.version c.1)
     ∙ ap (λ (n : ℕ). fold_key b.blob b.version n) (number_is a.page b.page d.1)
@@ -93,37 +90,6 @@ pub entry_old : {K V : Type 0} (same : K → K → Bool) (es : List (K × V)) (k
 entry_old same es k x q v means e = old_case same es k x q v means e (same k q) refl
 
 -- ---- items
-pub get_set_same : {X : Type 0} (xs : List X) (i : ℕ) (x y : X) → slice_get xs i ≡ Some y → slice_get (slice_set xs i x) i ≡ Some x
-get_set_same [] i x y e = (let no : ⊥ = cc in absurd no)
-get_set_same (z ∷ xs) zero x y e = refl
-get_set_same (z ∷ xs) (suc i) x y e = get_set_same xs i x y e
-
--- an item after a write is the one written, or was there
-pub get_set : {X : Type 0} (xs : List X) (i j : ℕ) (x y : X) → slice_get (slice_set xs i x) j ≡ Some y → ((j ≡ i) × (x ≡ y)) ⊎ (slice_get xs j ≡ Some y)
-get_set [] i j x y e = (let no : ⊥ = cc in absurd no)
-get_set (z ∷ xs) zero zero x y e = inl (refl, (let g : x ≡ y = cc in g))
-get_set (z ∷ xs) zero (suc j) x y e = inr e
-get_set (z ∷ xs) (suc i) zero x y e = inr e
-get_set (z ∷ xs) (suc i) (suc j) x y e = elim (get_set xs i j x y e) [ inl a ↦ inl (ap (λ (n : ℕ). suc n) a.0, a.1) | inr b ↦ inr b ]
-
--- an item that is there is there after a write, or is the one written over
-pub get_set_on : {X : Type 0} (xs : List X) (i j : ℕ) (x y : X) → slice_get xs j ≡ Some y → (j ≡ i) ⊎ (slice_get (slice_set xs i x) j ≡ Some y)
-get_set_on [] i j x y e = (let no : ⊥ = cc in absurd no)
-get_set_on (z ∷ xs) zero zero x y e = inl refl
-get_set_on (z ∷ xs) zero (suc j) x y e = inr e
-get_set_on (z ∷ xs) (suc i) zero x y e = inr e
-get_set_on (z ∷ xs) (suc i) (suc j) x y e = elim (get_set_on xs i j x y e) [ inl a ↦ inl (ap (λ (n : ℕ). suc n) a) | inr b ↦ inr b ]
-
-pub get_more : {X : Type 0} (xs ys : List X) (j : ℕ) (y : X) → slice_get xs j ≡ Some y → slice_get (xs ++ ys) j ≡ Some y
-get_more [] ys j y e = (let no : ⊥ = cc in absurd no)
-get_more (x ∷ xs) ys zero y e = e
-get_more (x ∷ xs) ys (suc j) y e = get_more xs ys j y e
-
-pub get_below : {X : Type 0} (xs : List X) (j : ℕ) (y : X) → slice_get xs j ≡ Some y → j < length xs
-get_below [] j y e = (let no : ⊥ = cc in absurd no)
-get_below (x ∷ xs) zero y e = omega arith
-get_below (x ∷ xs) (suc j) y e = omega (arith, get_below xs j y e)
-
 -- an item of a list with one more is the new one, or was there
 pub get_next : {X : Type 0} (xs : List X) (x : X) (j : ℕ) (y : X) → slice_get (xs ++ x ∷ []) j ≡ Some y → ((j ≡ length xs) × (x ≡ y)) ⊎ (slice_get xs j ≡ Some y)
 get_next [] x zero y e = inl (refl, (let g : x ≡ y = cc in g))
@@ -139,11 +105,7 @@ mark_next (b ∷ bs) zero = refl
 mark_next (b ∷ bs) (suc i) = mark_next bs i
 
 pub mark_set : (bs : List Bool) (i j : ℕ) → slice_index_or (slice_set bs i true) j false ≡ true → (j ≡ i) ⊎ (slice_index_or bs j false ≡ true)
-mark_set [] i j e = inr e
-mark_set (b ∷ bs) zero zero e = inl refl
-mark_set (b ∷ bs) zero (suc j) e = inr e
-mark_set (b ∷ bs) (suc i) zero e = inr e
-mark_set (b ∷ bs) (suc i) (suc j) e = elim (mark_set bs i j e) [ inl a ↦ inl (ap (λ (n : ℕ). suc n) a) | inr f ↦ inr f ]
+mark_set bs i j e = elim (cases_eq j i) [ inl same ↦ inl same | inr apart ↦ inr (sym (get_or-set_other bs i j true false apart) ∙ e) ]
 
 -- what lies below the prefix is marked
 pub prefix_marked : (bs : List Bool) (j : ℕ) → j < true_prefix bs → slice_index_or bs j false ≡ true

@@ -1,20 +1,16 @@
 -- The promises, from what every list of allowed steps keeps.
-use Rattle.std.proofs.Common.{◌≡◌, ℕ, ◌≤◌, List, length, ap, sym, subst, ◌∙◌, arith}
-use Rattle.blob_model.specs.Store.{Blob, blob_at, assigned, published}
-use Rattle.blob_model.specs.Answer.{answer}
-use Rattle.blob_model.specs.declared.call.Call.TheVariants as Calls
+use Rattle.std.proofs.Common.{◌≡◌, ℕ, ◌≤◌, List, length, ap, sym, ◌∙◌, arith}
+use Rattle.blob_model.specs.Store.{blob_at, assigned, published}
 use Rattle.blob_model.specs.declared.call.Outcome.{Outcome}
 use Rattle.blob_model.specs.declared.call.Outcome.TheVariants as Outcomes
 use Rattle.range_log.specs.Log.{HasNode}
 use Rattle.range_log.specs.Extents.{InBounds}
 use Rattle.range_log.specs.Updates.{extents}
-use Rattle.range_log.specs.Visits.{visits}
 use Rattle.range_log.specs.Walk.{root_of}
 use Rattle.range_log.proofs.Bytes.{length-extents}
 use Rattle.range_log.specs.Rows.{node_of}
 use Rattle.blob_core.specs.World.{World, empty_world, key_in, log_of}
 use Rattle.blob_core.specs.Steps.{world_after}
-use Rattle.blob_core.specs.Walk.{read_walk}
 use Rattle.blob_core.specs.Promises.{FinishedRowsAreThere, FoundIsNewest, ReachedIsThere, ReadsAreContent, StepsHold, IsRowNode}
 use Rattle.blob_core.proofs.Lists.{one_value}
 use Rattle.blob_core.proofs.Growing.{Cited}
@@ -54,20 +50,14 @@ reached_there c p w pos s blob version b ways there some upto leads =
     reached_is c p w blob b.updates (published b) pos bs.replay (rows_known p w blob b (published b) bs (omega arith)) (none_at_zero p w blob s) ways version
     (root_of p (log_of p b.updates) version) upto root leads
 
-abbrev IsRead : ℕ → World → ℕ → ℕ → ℕ → ℕ → Blob → Type 0
-IsRead p w blob version offset count b =
-    ((answer w.store 0 (Calls.Read blob version offset count)).1 ≡ Outcomes.Content (read_walk p w blob b version offset count).bytes)
-    × ((read_walk p w blob b version offset count).nodes ≤ visits p (extents b.updates) version offset count)
-
 reads_there : (c : Cited) (p : ℕ) (w : World) → 1 ≤ p → Stands p w → ReadsAreContent p w
 reads_there c p w pos s blob version offset count b ok there =
     let (x, at, upto, inside, gives) = read_done w.store 0 blob version offset count ok in
     let bs : BlobStands p w blob x = s.blobs blob x at in
-    let read = read_is c p w blob x version offset count pos s bs upto inside in
+    let read = read_is c p w blob x pos s bs version offset count upto inside in
     let same : x ≡ b = one_value (blob_at w.store blob) x b at there in
     let content : List ℕ → Outcome = λ l. Outcomes.Content l in
-    let P : Blob → Type 0 = λ y. IsRead p w blob version offset count y in
-    subst P same (gives ∙ ap content (sym read.bytes), read.nodes)
+    rw (← same) (gives ∙ ap content (sym read.bytes), read.nodes)
 
 pub steps_hold : (c : Cited) → StepsHold
 steps_hold c p limits steps pos ok =

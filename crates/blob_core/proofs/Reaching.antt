@@ -1,5 +1,5 @@
 -- What links and backs lead to from a published root is there.
-use Rattle.std.proofs.Common.{◌≡◌, ℕ, ◌-◌, ◌/◌, ◌≤◌, Bool, true, false, List, [], ◌∷◌, arith, inl, inr, refl, ap, sym, subst, ◌∙◌}
+use Rattle.std.proofs.Common.{◌≡◌, ℕ, ◌-◌, ◌/◌, ◌≤◌, Bool, true, false, List, [], ◌∷◌, arith, inl, inr, refl}
 use Rattle.std.specs.Prelude.{◌==◌, if◌then◌else◌, Option, Some, None}
 use Rattle.std.proofs.lemmas.Bool.{cases_lt}
 use Rattle.blob_model.specs.Content.{Update}
@@ -14,7 +14,7 @@ use Rattle.range_log.specs.Extents.{Extent, touches}
 use Rattle.range_log.specs.Updates.{extents, Replayable}
 use Rattle.range_log.specs.Rows.{node_of, leaf_of, inner_of, back_of}
 use Rattle.blob_core.specs.World.{World, IsKnown, node_in, log_of}
-use Rattle.blob_core.specs.Walk.{Way, to_left, to_right, to_back, version_on, range_on, VersionedRange, reached}
+use Rattle.blob_core.specs.Walk.{Way, to_left, to_right, to_back, version_on, range_on, reached}
 use Rattle.blob_core.proofs.Growing.{Cited}
 use Rattle.blob_core.proofs.Finding.{RowsKnown}
 
@@ -51,10 +51,6 @@ row_leads c p us j r to_left pos ok has some = (c.name p j us r pos ok has).0 so
 row_leads c p us j r to_right pos ok has some = (c.name p j us r pos ok has).1 some
 row_leads c p us j r to_back pos ok has some = (c.name p j us r pos ok has).2 some
 
-way_leads : (c : Cited) (p : ℕ) (us : List Update) (j : ℕ) (r : Range) (way : Way) → 1 ≤ p → Replayable us → HasNode p (log_of p us) j r
-    → 1 ≤ version_on (node_of p (extents us) j r) way → HasNode p (log_of p us) (version_on (node_of p (extents us) j r) way) (range_on r way)
-way_leads c p us j r way pos ok has = row_leads c p us j r way pos ok has
-
 reached_on : (w : World) (blob j : ℕ) (r : Range) (way : Way) (ways : List Way) (n : Node) → node_in w blob j r ≡ Some n
     → reached w blob j r (way ∷ ways) ≡ reached w blob (version_on n way) (range_on r way) ways
 reached_on w blob j r way ways n e = rw (e, reached) refl
@@ -81,14 +77,12 @@ reached_is c p w blob us n pos ok known none [] j r le has some = (node_of p (ex
 reached_is c p w blob us n pos ok known none (way ∷ ways) j r le has begins =
     let x : Node = node_of p (extents us) j r in
     let e : reached w blob j r (way ∷ ways) ≡ reached w blob (version_on x way) (range_on r way) ways = reached_on w blob j r way ways x (known j r le has) in
-    let P : VersionedRange → Type 0 = λ s. 1 ≤ s.version → IsKnown (node_in w blob s.version s.range) in
     let below : version_on x way ≤ j = way_below x j way (links_below c p (extents us) j r (r.size == p)) in
-    let on : P (reached w blob (version_on x way) (range_on r way) ways) = elim (cases_lt 0 (version_on x way)) [
-      | inl some ↦ reached_is c p w blob us n pos ok known none ways (version_on x way) (range_on r way) (omega arith) (way_leads c p us j r way pos ok has some)
+    rw e
+    (elim (cases_lt 0 (version_on x way)) [
+      | inl some ↦ reached_is c p w blob us n pos ok known none ways (version_on x way) (range_on r way) (omega arith) (row_leads c p us j r way pos ok has some) (rw e at begins)
       | inr stop ↦
           (let z : version_on x way ≡ 0 = omega arith in
-          let at : (reached w blob (version_on x way) (range_on r way) ways).version ≡ 0 =
-          ap (λ (k : ℕ). (reached w blob k (range_on r way) ways).version) z ∙ from_zero w blob (range_on r way) ways none in
-          λ some. absurd (omega arith))
-    ] in
-    (subst P (sym e) on) begins
+          let at : (reached w blob (version_on x way) (range_on r way) ways).version ≡ 0 = rw z (from_zero w blob (range_on r way) ways none) in
+          absurd (omega (arith, at, rw e at begins)))
+    ])

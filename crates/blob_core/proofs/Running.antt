@@ -1,16 +1,16 @@
 -- Every list of allowed steps keeps what holds of a world, and is a legal history.
-use Rattle.std.proofs.Common.{◌≡◌, ℕ, ◌≤◌, List, [], ◌∷◌, refl, ap, sym, subst, ◌∙◌}
-use Rattle.std.specs.Prelude.{Option}
+use Rattle.std.proofs.Common.{◌≡◌, ℕ, ◌≤◌, List, [], ◌∷◌, ◌++◌, refl, ap, ◌∙◌}
 use Rattle.blob_model.specs.Content.{Update}
 use Rattle.blob_model.specs.Store.{Blob, blob_at, with_blob, finish}
-use Rattle.blob_model.specs.History.{store_from, IsLegalFrom, IsNumbered, MayCall}
+use Rattle.blob_model.specs.History.{store_from, IsLegalFrom, MayCall}
+use Rattle.blob_model.specs.declared.call.Event.{Event}
 use Rattle.blob_model.specs.declared.call.Event.TheVariants as Events
 use Rattle.blob_model.specs.declared.call.Call.TheVariants as Calls
 use Rattle.blob_core.specs.World.{World, bytes_of_pages}
-use Rattle.blob_core.specs.Steps.{IsAllowed, AllAllowed, IsNumberedIn, after, world_after, events_from}
+use Rattle.blob_core.specs.Steps.{IsAllowed, AllAllowed, IsNumberedIn, after, world_after, events_of, events_from}
 use Rattle.blob_core.specs.declared.step.Step.{Step}
 use Rattle.blob_core.specs.declared.step.Step.TheVariants as Moves
-use Rattle.blob_core.proofs.Lists.{joined_some, one_value}
+use Rattle.blob_core.proofs.Lists.{SmallPages, joined_some, one_value}
 use Rattle.blob_core.proofs.Growing.{Cited}
 use Rattle.blob_core.proofs.Taken.{create_done, assign_done, finish_done, branch_done}
 use Rattle.blob_core.proofs.Keeping.{Stands, page_put, node_put, finished, numbered, created, branched}
@@ -47,42 +47,22 @@ stands_after c p w (step ∷ steps) pos s ok = stands_after c p (after p w step)
 -- the store is that of the events
 pub store_after : (p : ℕ) (w : World) (steps : List Step) → (world_after p w steps).store ≡ store_from w.store (events_from p w steps)
 store_after p w [] = refl
-store_after p w (Moves.PagePut page bytes ∷ steps) = store_after p (after p w (Moves.PagePut page bytes)) steps
-store_after p w (Moves.Create caller ∷ steps) = store_after p (after p w (Moves.Create caller)) steps
-store_after p w (Moves.Assign caller blob place pages ∷ steps) = store_after p (after p w (Moves.Assign caller blob place pages)) steps
-store_after p w (Moves.FoldPut blob version page ∷ steps) = store_after p (after p w (Moves.FoldPut blob version page)) steps
-store_after p w (Moves.NodePut key ∷ steps) = store_after p (after p w (Moves.NodePut key)) steps
-store_after p w (Moves.Finish caller blob version ∷ steps) = store_after p (after p w (Moves.Finish caller blob version)) steps
-store_after p w (Moves.Branch caller blob version ∷ steps) = store_after p (after p w (Moves.Branch caller blob version)) steps
 store_after p w (Moves.Read blob version offset count ∷ steps) = store_after p w steps
+store_after p w (step ∷ steps) = store_after p (after p w step) steps
 
 may_finish : (w : World) (caller blob version : ℕ) (b : Blob) → IsNumberedIn w blob version b → MayCall w.store (Calls.Finish blob version)
-may_finish w caller blob version b own =
-    let P : Option Blob → Type 0 = λ o. IsNumbered o version in
-    subst P (sym own.there) (own.some, own.upto)
+may_finish w caller blob version b own = rw own.there (own.some, own.upto)
+
+-- the events of an allowed step may come before those that its world allows
+step_legal : (p : ℕ) (w : World) (step : Step) (rest : List Event) → SmallPages p w.pages → IsAllowed p w step → IsLegalFrom (after p w step).store rest
+    → IsLegalFrom w.store (events_of w step ++ rest)
+step_legal p w (Moves.Create caller) rest small ok legal = (record { may = tt; accepted = ok }, legal)
+step_legal p w (Moves.Assign caller blob place pages) rest small ok legal = (record { may = joined_some p w.pages small pages ok.0; accepted = ok.1 }, legal)
+step_legal p w (Moves.Finish caller blob version) rest small ok legal = (record { may = may_finish w caller blob version ok.1.0 ok.1.1; accepted = ok.0 }, legal)
+step_legal p w (Moves.Branch caller blob version) rest small ok legal = (record { may = tt; accepted = ok }, legal)
+step_legal p w step rest small ok legal = legal
 
 pub legal_after : (c : Cited) (p : ℕ) (w : World) (steps : List Step) → 1 ≤ p → Stands p w → AllAllowed p w steps → IsLegalFrom w.store (events_from p w steps)
 legal_after c p w [] pos s ok = tt
-legal_after c p w (Moves.PagePut page bytes ∷ steps) pos s ok =
-    legal_after c p (after p w (Moves.PagePut page bytes)) steps pos (step_stands c p w (Moves.PagePut page bytes) pos s ok.0) ok.1
-legal_after c p w (Moves.Create caller ∷ steps) pos s ok = (
-  record { may = tt; accepted = ok.0 },
-  legal_after c p (after p w (Moves.Create caller)) steps pos (step_stands c p w (Moves.Create caller) pos s ok.0) ok.1,
-)
-legal_after c p w (Moves.Assign caller blob place pages ∷ steps) pos s ok = (
-  record { may = joined_some p w.pages s.pages pages ok.0.0; accepted = ok.0.1 },
-  legal_after c p (after p w (Moves.Assign caller blob place pages)) steps pos (step_stands c p w (Moves.Assign caller blob place pages) pos s ok.0) ok.1,
-)
-legal_after c p w (Moves.FoldPut blob version page ∷ steps) pos s ok =
-    legal_after c p (after p w (Moves.FoldPut blob version page)) steps pos (step_stands c p w (Moves.FoldPut blob version page) pos s ok.0) ok.1
-legal_after c p w (Moves.NodePut key ∷ steps) pos s ok =
-    legal_after c p (after p w (Moves.NodePut key)) steps pos (step_stands c p w (Moves.NodePut key) pos s ok.0) ok.1
-legal_after c p w (Moves.Finish caller blob version ∷ steps) pos s ok = (
-  record { may = may_finish w caller blob version ok.0.1.0 ok.0.1.1; accepted = ok.0.0 },
-  legal_after c p (after p w (Moves.Finish caller blob version)) steps pos (step_stands c p w (Moves.Finish caller blob version) pos s ok.0) ok.1,
-)
-legal_after c p w (Moves.Branch caller blob version ∷ steps) pos s ok = (
-  record { may = tt; accepted = ok.0 },
-  legal_after c p (after p w (Moves.Branch caller blob version)) steps pos (step_stands c p w (Moves.Branch caller blob version) pos s ok.0) ok.1,
-)
-legal_after c p w (Moves.Read blob version offset count ∷ steps) pos s ok = legal_after c p w steps pos s ok.1
+legal_after c p w (step ∷ steps) pos s ok =
+    step_legal p w step (events_from p (after p w step) steps) s.pages ok.0 (legal_after c p (after p w step) steps pos (step_stands c p w step pos s ok.0) ok.1)

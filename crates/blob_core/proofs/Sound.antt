@@ -1,15 +1,14 @@
 -- In a world that allowed steps lead to each blob is sound: no version is larger than the limit, and what is woven is the row's.
-use Rattle.std.proofs.Common.{◌≡◌, ℕ, ◌+◌, ◌≤◌, ◌<◌, zero, suc, Bool, true, false, List, [], ◌∷◌, ◌++◌, length, take, arith, inl, inr, refl, ap, sym, subst, ◌∙◌}
+use Rattle.std.proofs.Common.{◌≡◌, ◌⊎◌, ℕ, ◌+◌, ◌≤◌, ◌<◌, zero, suc, Bool, false, List, [], ◌∷◌, ◌++◌, length, take, drop, arith, inl, inr, refl, ap, sym, subst, ◌∙◌}
 use Rattle.std.specs.Prelude.{◌==◌, ◌||◌, nat_lt, Some, max}
 use Rattle.std.proofs.lemmas.Bool.Decides.{nat_tests}
-use Rattle.std.proofs.lemmas.Bool.{cases_lt}
+use Rattle.std.proofs.lemmas.Bool.{cases_lt, or_parts}
 use Rattle.std.proofs.lemmas.List.{length-append, length-take-le, take-append-drop}
 use Rattle.blob_model.specs.Limits.{Bounds, IsWithin}
 use Rattle.blob_model.specs.Content.{Update, size_of, offset_of}
 use Rattle.blob_model.specs.Store.{Store, Blob, blob_at, with_blob, and_blob, and_update, finish, branch_of, assigned, size_now, size_with, waiting}
 use Rattle.blob_model.specs.Answer.{answer}
-use Rattle.blob_model.specs.History.{store_from, is_refused}
-use Rattle.blob_model.specs.declared.call.Event.TheVariants as Events
+use Rattle.blob_model.specs.History.{is_refused}
 use Rattle.blob_model.specs.declared.call.Place.{Place}
 use Rattle.blob_model.specs.declared.call.Call.TheVariants as Calls
 use Rattle.tree_geom.specs.declared.touch.Touch.{Touch}
@@ -20,9 +19,9 @@ use Rattle.range_log.specs.Updates.{extents, Replayable, extent_of, update_at}
 use Rattle.range_log.specs.Laws.{ExtentsStand}
 use Rattle.range_log.proofs.Grown.{touch-touches}
 use Rattle.range_log.proofs.Bytes.{length-extents, extent_is}
-use Rattle.blob_core.specs.World.{World, empty_world, kept_at, log_of, bytes_of_pages}
+use Rattle.blob_core.specs.World.{World, empty_world, log_of, bytes_of_pages}
 use Rattle.blob_core.specs.Steps.{IsAllowed, IsNumberedIn, AllAllowed, after, world_after}
-use Rattle.blob_core.specs.Standing.{IsSound, WeavesRow, Stays, ReachedStays}
+use Rattle.blob_core.specs.Standing.{IsSound, WeavesRow, ReachedStays}
 use Rattle.blob_core.specs.declared.step.Step.{Step}
 use Rattle.blob_core.specs.declared.step.Step.TheVariants as Moves
 use Rattle.blob_core.proofs.Lists.{joined_some}
@@ -88,115 +87,70 @@ record Bounded (limits : Bounds) (s : Store) : Type 0 where
   fits : (blob : ℕ) (b : Blob) → blob_at s blob ≡ Some b → UpdatesFit limits b.updates
 
 -- ---- what the steps keep
-bounded_more : (limits : Bounds) (s t : Store) (new : Blob) → Bounded limits s → t ≡ and_blob s new → UpdatesFit limits new.updates → Bounded limits t
-bounded_more limits s t new bound e small =
-    let B : Store → Type 0 = λ x. Bounded limits x in
-    subst B (sym e)
-    (record {
-      same = bound.same;
-      fits = λ blob b is.
-          elim (more_was s new blob b is) [
-            | inl here ↦ (let P : Blob → Type 0 = λ x. UpdatesFit limits x.updates in subst P here.1 small)
-            | inr old ↦ bound.fits blob b old
-          ];
-    })
-
-bounded_with : (limits : Bounds) (s t : Store) (at : ℕ) (before new : Blob) → Bounded limits s → blob_at s at ≡ Some before → t ≡ with_blob s at new
-    → UpdatesFit limits new.updates → Bounded limits t
-bounded_with limits s t at before new bound there e small =
-    let B : Store → Type 0 = λ x. Bounded limits x in
-    subst B (sym e)
-    (record {
-      same = bound.same;
-      fits = λ blob b is.
-          elim (with_was s at before new there blob b is) [
-            | inl here ↦ (let P : Blob → Type 0 = λ x. UpdatesFit limits x.updates in subst P here.1 small)
-            | inr old ↦ bound.fits blob b old
-          ];
-    })
-
-second_false : (x y z : Bool) → (x || (y || z)) ≡ false → y ≡ false
-second_false true y z e = (let no : ⊥ = cc in absurd no)
-second_false false true z e = (let no : ⊥ = cc in absurd no)
-second_false false false z e = refl
-
-third_false : (x y z v : Bool) → (x || (y || (z || v))) ≡ false → z ≡ false
-third_false true y z v e = (let no : ⊥ = cc in absurd no)
-third_false false y z v e = second_false y z v e
+bounded_on : (limits : Bounds) (s t : Store) (at : ℕ) (new : Blob) → Bounded limits s → t.limits ≡ s.limits → UpdatesFit limits new.updates
+    → ((id : ℕ) (b : Blob) → blob_at t id ≡ Some b → ((id ≡ at) × (new ≡ b)) ⊎ (blob_at s id ≡ Some b)) → Bounded limits t
+bounded_on limits s t at new bound same small was = record {
+  same = same ∙ bound.same;
+  fits = λ id b is. elim (was id b is) [ inl here ↦ rw here.1 at small | inr old ↦ bound.fits id b old ];
+}
 
 test_small : (a b : ℕ) → nat_lt a b ≡ false → b ≤ a
 test_small a b e = grind (arith, nat_tests)
 
--- an update that is taken leaves a size within the limit
-update_small : (limits : Bounds) (s : Store) (caller blob : ℕ) (place : Place) (bytes : List ℕ) (b : Blob) → Bounded limits s → blob_at s blob ≡ Some b
-    → is_refused (answer s caller (Calls.Assign blob place bytes)).1 ≡ false → size_with b place bytes ≤ limits.max_size
-update_small limits s caller blob place bytes b bound is taken =
-    let tests = sym (assign_refused s caller blob place bytes b is) ∙ taken in
-    let small : size_with b place bytes ≤ s.limits.max_size = test_small s.limits.max_size (size_with b place bytes)
-    (second_false (nat_lt (size_now b) (offset_of place (size_now b))) (nat_lt s.limits.max_size (size_with b place bytes))
-    (assigned b == s.limits.max_versions || (waiting b == s.limits.max_open || false)) tests) in
-    let same : s.limits.max_size ≡ limits.max_size = ap (λ (l : Bounds). l.max_size) bound.same in
-    omega arith
-
--- and it leaves no more updates than the limit
-update_few : (limits : Bounds) (s : Store) (caller blob : ℕ) (place : Place) (bytes : List ℕ) (b : Blob) → Bounded limits s → blob_at s blob ≡ Some b
-    → is_refused (answer s caller (Calls.Assign blob place bytes)).1 ≡ false → assigned b < limits.max_versions
-update_few limits s caller blob place bytes b bound is taken =
-    let tests = sym (assign_refused s caller blob place bytes b is) ∙ taken in
-    let apart : (assigned b == s.limits.max_versions) ≡ false =
-    third_false (nat_lt (size_now b) (offset_of place (size_now b))) (nat_lt s.limits.max_size (size_with b place bytes))
-    (assigned b == s.limits.max_versions) (waiting b == s.limits.max_open || false) tests in
-    let same : s.limits.max_versions ≡ limits.max_versions = ap (λ (l : Bounds). l.max_versions) bound.same in
+-- an update that is taken leaves a size within the limit, and no more updates than the limit
+update_fits : (limits : Bounds) (s : Store) (caller blob : ℕ) (place : Place) (bytes : List ℕ) (b : Blob) → Bounded limits s → blob_at s blob ≡ Some b
+    → is_refused (answer s caller (Calls.Assign blob place bytes)).1 ≡ false → (size_with b place bytes ≤ limits.max_size) × (assigned b < limits.max_versions)
+update_fits limits s caller blob place bytes b bound is taken =
+    let others : Bool = assigned b == s.limits.max_versions || (waiting b == s.limits.max_open || false) in
+    let past = or_parts (nat_lt (size_now b) (offset_of place (size_now b))) (nat_lt s.limits.max_size (size_with b place bytes) || others) (sym (assign_refused s caller blob place bytes b is) ∙ taken) in
+    let big = or_parts (nat_lt s.limits.max_size (size_with b place bytes)) others past.1 in
+    let many = or_parts (assigned b == s.limits.max_versions) (waiting b == s.limits.max_open || false) big.1 in
+    let small : size_with b place bytes ≤ s.limits.max_size = test_small s.limits.max_size (size_with b place bytes) big.0 in
     let few : assigned b ≤ limits.max_versions = (bound.fits blob b is).few in
-    grind (arith, nat_tests, apart, same, few)
+    (rw bound.same at small, (let apart = rw bound.same at many.0 in grind (arith, nat_tests, apart, few)))
 
 fits_next : (c : Cited) (most : ℕ) (us : List Update) (u : Update) → Replayable (us ++ u ∷ []) → SizesFit most us → last_size u (size_of us (length us)) ≤ most → SizesFit most (us ++ u ∷ [])
 fits_next c most us u ok fits small v le =
     elim (cases_lt (length us) v) [
       | inl after ↦
-          (let here : suc (length us) ≡ v = omega (arith, length-append us (u ∷ [])) in
-          let P : ℕ → Type 0 = λ n. size_of (us ++ u ∷ []) n ≤ most in
-          subst P here (omega (arith, size_next c us u ok)))
+          (let here : v ≡ suc (length us) = omega (arith, length-append us (u ∷ [])) in
+          rw here (omega (arith, size_next c us u ok)))
       | inr before ↦ omega (arith, size_same us (u ∷ []) v before, fits v before)
     ]
 
 fits_front : (most : ℕ) (us : List Update) (n : ℕ) → n ≤ length us → SizesFit most us → SizesFit most (take n us)
 fits_front most us n le fits v within =
     let count : length (take n us) ≡ n = length-take-le n us le in
-    let P : List Update → Type 0 = λ l. size_of l v ≡ size_of (take n us) v in
-    let same : size_of us v ≡ size_of (take n us) v = subst P (take-append-drop n us) (size_same (take n us) _ v within) in
+    let same : size_of us v ≡ size_of (take n us) v = rw (take-append-drop n us) at (size_same (take n us) (drop n us) v within) in
     omega (arith, fits v (omega arith), same)
 
 bounded_step : (c : Cited) (p : ℕ) (limits : Bounds) (w : World) (step : Step) → 1 ≤ p → Stands p w → Bounded limits w.store → IsAllowed p w step → Bounded limits (after p w step).store
-bounded_step c p limits w (Moves.PagePut page bytes) pos s bound ok = bound
 bounded_step c p limits w (Moves.Create caller) pos s bound ok =
-    bounded_more limits w.store (store_from w.store (Events.Create caller ∷ [])) (record { updates = []; finished = [] }) bound (create_done w.store caller ok)
-    (record { sizes = λ v le. none_small limits.max_size v le; few = omega arith })
+    let new : Blob = record { updates = []; finished = [] } in
+    subst (Bounded limits) (sym (create_done w.store caller ok))
+    (bounded_on limits w.store (and_blob w.store new) (suc (length w.store.blobs)) new bound refl (record { sizes = λ v le. none_small limits.max_size v le; few = omega arith }) (more_was w.store new))
 bounded_step c p limits w (Moves.Assign caller blob place pages) pos s bound ok =
     let bytes : List ℕ = bytes_of_pages w.pages pages in
     let (b, is, fits, store) = assign_done w.store caller blob place bytes ok.1 in
     let u : Update = record { caller = caller; place = place; bytes = bytes } in
-    let bs : BlobStands p w blob b = s.blobs blob b is in
-    let replay : Replayable (b.updates ++ u ∷ []) = replay_next b.updates u bs.replay fits (joined_some p w.pages s.pages pages ok.0) in
-    bounded_with limits w.store (store_from w.store (Events.Assign caller blob place bytes ∷ [])) blob b (and_update b u) bound is store
-    (record {
-      sizes = fits_next c limits.max_size b.updates u replay (bound.fits blob b is).sizes (update_small limits w.store caller blob place bytes b bound is ok.1);
-      few = omega (arith, length-append b.updates (u ∷ []), update_few limits w.store caller blob place bytes b bound is ok.1);
-    })
-bounded_step c p limits w (Moves.FoldPut blob version page) pos s bound ok = bound
-bounded_step c p limits w (Moves.NodePut key) pos s bound ok = bound
+    let replay : Replayable (b.updates ++ u ∷ []) = replay_next b.updates u (s.blobs blob b is).replay fits (joined_some p w.pages s.pages pages ok.0) in
+    let small = update_fits limits w.store caller blob place bytes b bound is ok.1 in
+    subst (Bounded limits) (sym store)
+    (bounded_on limits w.store (with_blob w.store blob (and_update b u)) blob (and_update b u) bound refl
+    (record { sizes = fits_next c limits.max_size b.updates u replay (bound.fits blob b is).sizes small.0; few = omega (arith, length-append b.updates (u ∷ []), small.1) })
+    (with_was w.store blob b (and_update b u) is))
 bounded_step c p limits w (Moves.Finish caller blob version) pos s bound ok =
     let (b, is, store) = finish_done w.store caller blob version ok.0 in
-    bounded_with limits w.store (store_from w.store (Events.Finish caller blob version ∷ [])) blob b (finish b version) bound is store (bound.fits blob b is)
+    subst (Bounded limits) (sym store)
+    (bounded_on limits w.store (with_blob w.store blob (finish b version)) blob (finish b version) bound refl (bound.fits blob b is) (with_was w.store blob b (finish b version) is))
 bounded_step c p limits w (Moves.Branch caller blob version) pos s bound ok =
     let (b, is, le, store) = branch_done w.store caller blob version ok in
     let within : version ≤ assigned b = omega (arith, published_within p w blob b (s.blobs blob b is)) in
-    bounded_more limits w.store (store_from w.store (Events.Branch caller blob version ∷ [])) (branch_of b version) bound store
-    (record {
-      sizes = fits_front limits.max_size b.updates version within (bound.fits blob b is).sizes;
-      few = omega (arith, length-take-le version b.updates within, within, (bound.fits blob b is).few);
-    })
-bounded_step c p limits w (Moves.Read blob version offset count) pos s bound ok = bound
+    let few : length (take version b.updates) ≤ limits.max_versions = omega (arith, length-take-le version b.updates within, (bound.fits blob b is).few) in
+    subst (Bounded limits) (sym store)
+    (bounded_on limits w.store (and_blob w.store (branch_of b version)) (suc (length w.store.blobs)) (branch_of b version) bound refl
+    (record { sizes = fits_front limits.max_size b.updates version within (bound.fits blob b is).sizes; few = few }) (more_was w.store (branch_of b version)))
+bounded_step c p limits w step pos s bound ok = bound
 
 bounded_after : (c : Cited) (p : ℕ) (limits : Bounds) (w : World) (steps : List Step) → 1 ≤ p → Stands p w → Bounded limits w.store → AllAllowed p w steps
     → Bounded limits (world_after p w steps).store
@@ -210,10 +164,9 @@ weaves_row c p w blob b pos bs k own =
     let u : UpdateStands p w blob b k = bs.updates k own.some own.upto in
     let ok : InBounds (extents b.updates) = in_bounds c b.updates bs.replay in
     let known : RowsKnown p w blob b.updates u.kept.published = rows_known p w blob b u.kept.published bs u.front in
-    let At : ℕ → Type 0 = λ o. kept_at w.updates o k ≡ Some u.kept in
     record {
       kept = u.kept;
-      there = subst At own.own u.there;
+      there = rw own.own at u.there;
       bytes = u.bytes;
       folded = λ i. woven_folded_is c p w blob b u.kept k pos ok known u.before u.waiting own.upto i;
       nodes = λ r has. woven_is c p w blob b u.kept k r pos ok known u.before u.waiting own.upto has.aligned;
@@ -239,8 +192,7 @@ reached_stays c p w r =
     let none : Bounded r.limits empty.store = record { same = refl; fits = λ blob b e. absurd (none_only (blob == 0) b e) } in
     let s : Stands p last = stands_after c p empty r.steps r.some (empty_stands p r.limits) r.allowed in
     let bound : Bounded r.limits last.store = bounded_after c p r.limits empty r.steps r.some (empty_stands p r.limits) none r.allowed in
-    let S : World → Type 0 = λ x. Stays p x in
-    subst S (sym r.is)
+    rw r.is
     (record {
       blobs = λ blob b is. sound c p r.limits last r.within r.some s bound blob b is;
       reads = (steps_hold c p r.limits r.steps r.some r.allowed).reads;

@@ -1,6 +1,6 @@
 -- What the store has done where it didn't refuse a change.
-use Rattle.std.proofs.Common.{◌≡◌, ◌⊎◌, ℕ, ◌+◌, ◌-◌, ◌≤◌, suc, Bool, true, false, List, [], ◌∷◌, ◌++◌, length, arith, inl, inr, refl, ap, ◌∙◌}
-use Rattle.std.specs.Prelude.{◌==◌, nat_lt, if◌then◌else◌, Option, Some, None, slice_get, slice_set}
+use Rattle.std.proofs.Common.{◌≡◌, ◌⊎◌, ℕ, ◌+◌, ◌-◌, ◌≤◌, zero, suc, Bool, true, false, List, [], ◌∷◌, ◌++◌, length, arith, inl, inr, refl, ap, sym, ◌∙◌}
+use Rattle.std.specs.Prelude.{◌==◌, nat_lt, if◌then◌else◌, Option, Some, None}
 use Rattle.std.proofs.lemmas.Bool.Decides.{nat_tests}
 use Rattle.blob_model.specs.Content.{offset_of}
 use Rattle.blob_model.specs.Store.{Store, Blob, blob_at, with_blob, and_blob, and_update, finish, branch_of, published, size_now}
@@ -12,8 +12,11 @@ use Rattle.blob_model.specs.declared.call.Call.TheVariants as Calls
 use Rattle.blob_model.specs.declared.call.Outcome.TheVariants as Outcomes
 use Rattle.blob_model.specs.declared.call.Refusal.{Refusal}
 use Rattle.blob_model.specs.declared.call.Refusal.TheVariants as Refusals
-use Rattle.blob_core.proofs.Lists.{get_set_same, get_set, get_set_on, get_more, get_below, get_next}
-use Rattle.blob_model.proofs.Stays.{item_of}
+use Rattle.std.proofs.lemmas.Bool.{cases_eq}
+use Rattle.std.proofs.lemmas.Option.{slice_get_within}
+use Rattle.blob_model.proofs.Marks.{get-set_other, blob_at-with}
+use Rattle.blob_model.proofs.Stays.{get-append, item_of}
+use Rattle.blob_core.proofs.Lists.{get_next, one_value}
 
 -- ---- not refused
 unless_done : (s : Store) (o : Option Refusal) (done : Answered) → is_refused (let a : Answered = elim o [ Some r ↦ refuse s r | None ↦ done ] in a).1 ≡ false
@@ -83,13 +86,12 @@ pub blob_some : (s : Store) (id : ℕ) (b : Blob) → blob_at s id ≡ Some b �
 blob_some s id b e =
     let at = item_of s.blobs (id == 0) (id - 1) b e in
     let some : 1 ≤ id = apart_zero id at.0 in
-    (some, omega (arith, get_below s.blobs (id - 1) b at.1))
+    (some, omega (arith, slice_get_within s.blobs (id - 1) b at.1))
 
 pub more_kept : (s : Store) (x : Blob) (id : ℕ) (b : Blob) → blob_at s id ≡ Some b → blob_at (and_blob s x) id ≡ Some b
 more_kept s x id b e =
     let at = item_of s.blobs (id == 0) (id - 1) b e in
-    let more : slice_get (s.blobs ++ x ∷ []) (id - 1) ≡ Some b = get_more s.blobs (x ∷ []) (id - 1) b at.1 in
-    rw at.0 more
+    rw at.0 (get-append s.blobs (x ∷ []) (id - 1) b at.1)
 
 pub more_was : (s : Store) (x : Blob) (id : ℕ) (b : Blob) → blob_at (and_blob s x) id ≡ Some b → ((id ≡ suc (length s.blobs)) × (x ≡ b)) ⊎ (blob_at s id ≡ Some b)
 more_was s x id b e =
@@ -100,32 +102,22 @@ more_was s x id b e =
       | inr old ↦ inr (rw at.0 old)
     ]
 
+-- a change of one blob leaves the others
+with_other : (s : Store) (other : ℕ) (before x : Blob) → blob_at s other ≡ Some before → (id : ℕ) → (id ≡ other → ⊥) → blob_at (with_blob s other x) id ≡ blob_at s id
+with_other s other before x is zero apart = refl
+with_other s other before x is (suc id) apart =
+    let some : 1 ≤ other = (blob_some s other before is).0 in
+    let t : (suc id == 0) ≡ false = grind (arith, nat_tests) in
+    rw t (get-set_other s.blobs (other - 1) (suc id - 1) x (λ e. apart (omega arith)))
+
 pub with_was : (s : Store) (other : ℕ) (before x : Blob) → blob_at s other ≡ Some before → (id : ℕ) (b : Blob) → blob_at (with_blob s other x) id ≡ Some b
     → ((id ≡ other) × (x ≡ b)) ⊎ (blob_at s id ≡ Some b)
-with_was s other before x is id b e =
-    let at = item_of (slice_set s.blobs (other - 1) x) (id == 0) (id - 1) b e in
-    let there = item_of s.blobs (other == 0) (other - 1) before is in
-    let some : 1 ≤ id = apart_zero id at.0 in
-    let some_other : 1 ≤ other = apart_zero other there.0 in
-    elim (get_set s.blobs (other - 1) (id - 1) x b at.1) [
-      | inl new ↦ inl ((let here : id - 1 ≡ other - 1 = new.0 in omega arith), new.1)
-      | inr old ↦ inr (rw at.0 old)
-    ]
-
-pub with_new : (s : Store) (other : ℕ) (before x : Blob) → blob_at s other ≡ Some before → blob_at (with_blob s other x) other ≡ Some x
-with_new s other before x is =
-    let there = item_of s.blobs (other == 0) (other - 1) before is in
-    rw there.0 (get_set_same s.blobs (other - 1) x before there.1)
+with_was s other before x is id b e = elim (cases_eq id other) [
+  | inl same ↦ inl (same, one_value (blob_at (with_blob s other x) other) x b (blob_at-with s other before x is) (rw same at e))
+  | inr apart ↦ inr (sym (with_other s other before x is id apart) ∙ e)
+]
 
 -- each blob that was there is there, or is the one that changed
 pub with_on : (s : Store) (other : ℕ) (before x : Blob) → blob_at s other ≡ Some before → (id : ℕ) (b : Blob) → blob_at s id ≡ Some b
     → (id ≡ other) ⊎ (blob_at (with_blob s other x) id ≡ Some b)
-with_on s other before x is id b e =
-    let at = item_of s.blobs (id == 0) (id - 1) b e in
-    let there = item_of s.blobs (other == 0) (other - 1) before is in
-    let some : 1 ≤ id = apart_zero id at.0 in
-    let some_other : 1 ≤ other = apart_zero other there.0 in
-    elim (get_set_on s.blobs (other - 1) (id - 1) x b at.1) [
-      | inl same ↦ inl (let here : id - 1 ≡ other - 1 = same in omega arith)
-      | inr old ↦ inr (rw at.0 old)
-    ]
+with_on s other before x is id b e = elim (cases_eq id other) [ inl same ↦ inl same | inr apart ↦ inr (with_other s other before x is id apart ∙ e) ]

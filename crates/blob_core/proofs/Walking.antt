@@ -1,6 +1,6 @@
 -- What a walk brings, case by case.
-use Rattle.std.proofs.Common.{◌≡◌, ◌⊎◌, ℕ, ◌+◌, ◌-◌, ◌*◌, ◌/◌, ◌^◌, ◌<◌, ◌≤◌, zero, suc, Bool, true, false, List, [], ◌++◌, take, drop, arith, refl, ap, sym, subst, ◌∙◌, append-nil, append_assoc}
-use Rattle.std.specs.Prelude.{◌==◌, ◌&&◌, if◌then◌else◌, option_map, nat_lt, nat_le, Option, Some, None, Result, Ok, Err, IfOk}
+use Rattle.std.proofs.Common.{◌≡◌, ◌⊎◌, ℕ, ◌+◌, ◌-◌, ◌*◌, ◌/◌, ◌^◌, ◌<◌, ◌≤◌, zero, suc, Bool, true, false, List, [], ◌++◌, take, drop, arith, refl, ap, sym, ◌∙◌, append-nil, append_assoc}
+use Rattle.std.specs.Prelude.{◌==◌, ◌&&◌, nat_lt, nat_le, Some, None, Result, Ok, Err, IfOk}
 use Rattle.std.proofs.lemmas.Bool.Decides.{nat_tests}
 use Rattle.std.proofs.Math.Nat.{pow-succ'}
 use Rattle.blob_model.specs.Content.{put, size_of}
@@ -109,11 +109,8 @@ pub child_fits : (q h most : ℕ) → 1 ≤ h → (q + 1) * 2 ^ h ≤ most → (
 child_fits q zero most some fits = absurd (omega arith)
 child_fits q (suc h) most some fits =
     let one : suc h - 1 ≡ h = omega arith in
-    let double : 2 ^ suc h ≡ 2 * 2 ^ h = pow-succ' 2 h ∙ omega arith in
-    let n : ℕ = 2 ^ h in
-    let a : (q + 1) * (2 * n) ≤ most = (let P : ℕ → Type 0 = λ m. (q + 1) * m ≤ most in subst P double fits) in
-    let Q : ℕ → Type 0 = λ m. ((2 * q + 1) * 2 ^ m ≤ most) × ((2 * q + 1 + 1) * 2 ^ m ≤ most) in
-    subst Q (sym one) (omega arith, omega arith)
+    let a : (q + 1) * (2 * 2 ^ h) ≤ most = rw (pow-succ' 2 h) at fits in
+    rw one (omega arith, omega arith)
 
 -- ---- a read
 -- a read that isn't refused is of a published version, and within its size
@@ -122,20 +119,11 @@ pub read_within : (s : Store) (blob version offset count : ℕ) (b : Blob) → b
 read_within s blob version offset count b there taken =
     let (x, is, upto, inside, gives) = read_done s 0 blob version offset count taken in
     let same : x ≡ b = one_value (blob_at s blob) x b is there in
-    let P : Blob → Type 0 = λ y. (version ≤ published y) × (offset + count ≤ size_of y.updates version) in
-    subst P same (upto, inside)
-
-abbrev chosen : Bool → Option Blob → (Blob → List ℕ) → Option (List ℕ)
-chosen refused o f = if refused then None else option_map f o
-
-chosen_is : (t : Bool) (o : Option Blob) (f : Blob → List ℕ) (b : Blob) → t ≡ false → o ≡ Some b → chosen t o f ≡ Some (f b)
-chosen_is t o f b e g =
-    ap (λ (c : Bool). chosen c o f) e ∙ ap (λ (x : Option Blob). chosen false x f) g
+    (rw same at upto, rw same at inside)
 
 pub walked_some : (p : ℕ) (w : World) (blob version offset count : ℕ) (b : Blob) → blob_at w.store blob ≡ Some b → is_refused (answer w.store 0 (Calls.Read blob version offset count)).1 ≡ false
     → walked_in p w blob version offset count ≡ Some (read_walk p w blob b version offset count).bytes
-walked_some p w blob version offset count b there taken =
-    chosen_is (is_refused (answer w.store 0 (Calls.Read blob version offset count)).1) (blob_at w.store blob) (λ (x : Blob). (read_walk p w blob x version offset count).bytes) b taken there
+walked_some p w blob version offset count b there taken = rw (taken, there, walked_in) refl
 
 pub walked_cut : (p : ℕ) (w : World) (blob version offset count : ℕ) (b : Blob) → 1 ≤ count
     → (read_walk p w blob b version offset count).bytes

@@ -5,8 +5,8 @@ use Rattle.blob_core.proofs.Rowing.{VersionStands, version_stands, first_fits, p
 use Rattle.blob_core.proofs.leaves.fold_place.Goals as goal
 use Rattle.blob_core.proofs.leaves.fold_place.Goals.{After-page_bytes_stay, else-page-first-via-then-page-first+else-is_folded, else-page-first-via-else-page-first}
 
-stands : (c : After-page_bytes_stay) → VersionStands c.args.p c.args.blob.now c.args.log.now c.args.version
-stands c = version_stands c.page_bytes_stay.ensures.extents c.args.p c.args.blob.now c.args.log.now c.args.version (page_range c.args.p c.args.page) c.requires.log c.requires.has
+stands : (c : After-page_bytes_stay) → VersionStands c.args.p c.args.blob.now c.args.log.now c.args.version (page_range c.args.p c.args.page)
+stands c = version_stands c.page_bytes_stay.ensures.extents c.requires.log c.requires.has
 
 pub span_stands-requires : goal.span_stands-requires
 span_stands-requires c = omega (arith, c.size_at.ensures, (stands (goal.at.span_stands-requires c).After-page_bytes_stay).small)

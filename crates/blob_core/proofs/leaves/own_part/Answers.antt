@@ -1,34 +1,21 @@
-use Rattle.std.proofs.Common.{◌^◌, ◌≡◌, ℕ, ◌+◌, ◌-◌, ◌*◌, ◌≤◌, arith, ap, sym, subst, ◌∙◌}
+use Rattle.std.proofs.Common.{◌≡◌, ℕ, ◌+◌, ◌*◌, ◌≤◌, arith, ap}
 use Rattle.std.specs.Prelude.{max, min}
 use Rattle.tree_geom.specs.Geometry.{page_range}
 use Rattle.range_log.specs.Extents.{Extent, extent_at}
 use Rattle.range_log.specs.Updates.{extents}
 use Rattle.range_log.specs.Rows.{leaf_lo, leaf_hi, leaf_start, leaf_len}
-use Rattle.blob_core.proofs.Rowing.{VersionStands, version_stands, range_fits, extent_within}
+use Rattle.blob_core.proofs.Rowing.{VersionStands, version_stands}
 use Rattle.blob_core.proofs.leaves.own_part.Goals as goal
-use Rattle.blob_core.proofs.leaves.own_part.Goals.{After-page_bytes_stay, After-span_stands, After-min-high}
+use Rattle.blob_core.proofs.leaves.own_part.Goals.{After-page_bytes_stay, After-min-high}
 
 bounds_are : (p i at len size size' low high : ℕ) (x : Extent) → size ≡ p → size' ≡ p → at ≡ x.at → len ≡ x.len → low ≡ max at (i * size) → high ≡ min (at + len) (i * size + size')
     → (low ≡ leaf_lo p x i) × (high ≡ leaf_hi p x i)
 bounds_are p i at len size size' low high x one two begin count lo hi =
-    let end : i * p + p ≡ (i + 1) * p = omega arith in (
-      lo ∙ ap (λ (n : ℕ). max n (i * size)) begin ∙ ap (λ (n : ℕ). max x.at (i * n)) one,
-      hi
-          ∙ ap (λ (n : ℕ). min (n + len) (i * size + size')) begin
-          ∙ ap (λ (n : ℕ). min (x.at + n) (i * size + size')) count
-          ∙ ap (λ (n : ℕ). min (x.at + x.len) (i * n + size')) one
-          ∙ ap (λ (n : ℕ). min (x.at + x.len) (i * p + n)) two
-          ∙ ap (λ (n : ℕ). min (x.at + x.len) n) end,
-    )
+    let end : (i + 1) * p ≡ i * p + p = omega arith in
+    (rw (lo, begin, one), rw (hi, begin, count, one, two, end))
 
-stands : (c : After-page_bytes_stay) → VersionStands c.args.p c.args.blob.now c.args.log.now c.args.version
-stands c = version_stands c.page_bytes_stay.ensures.extents c.args.p c.args.blob.now c.args.log.now c.args.version (page_range c.args.p c.args.page) c.requires.log c.requires.has
-
--- the range ends where a tree may end
-ends : (c : After-span_stands) → (page_range c.args.p c.args.page).offset + (page_range c.args.p c.args.page).size ≤ 2 ^ 40
-ends c =
-    range_fits c.args.p c.args.blob.now.updates c.args.log.now c.args.version c.size_at-whole.result (page_range c.args.p c.args.page) c.requires.log.is c.requires.has c.size_at-whole.ensures
-    c.span_stands.ensures.fits
+stands : (c : After-page_bytes_stay) → VersionStands c.args.p c.args.blob.now c.args.log.now c.args.version (page_range c.args.p c.args.page)
+stands c = version_stands c.page_bytes_stay.ensures.extents c.requires.log c.requires.has
 
 -- the part lies between the leaf's bounds
 bounds : (c : After-min-high)
@@ -51,29 +38,17 @@ part_fits c =
 pub span_stands-requires : goal.span_stands-requires
 span_stands-requires c = omega (arith, c.size_at-whole.ensures, (stands (goal.at.span_stands-requires c).After-page_bytes_stay).small)
 
-pub extent-at-requires-clause-version : goal.extent-at-requires-clause-version
-extent-at-requires-clause-version c = let v = stands (goal.at.extent-at-requires-clause-version c).After-page_bytes_stay in (v.some, v.upto)
-
-pub extent-at-requires-clause-count : goal.extent-at-requires-clause-count
-extent-at-requires-clause-count c = (stands (goal.at.extent-at-requires-clause-count c).After-page_bytes_stay).count
-
-pub extent-at-requires-clause-sizes : goal.extent-at-requires-clause-sizes
-extent-at-requires-clause-sizes c = (stands (goal.at.extent-at-requires-clause-sizes c).After-page_bytes_stay).sizes
+pub extent-at-requires : goal.extent-at-requires
+extent-at-requires c = let v = stands (goal.at.extent-at-requires c).After-page_bytes_stay in record { version = (v.some, v.upto); count = v.count; sizes = v.sizes }
 
 pub overflow_mul-begin : goal.overflow_mul-begin
-overflow_mul-begin c = omega (arith, ends (goal.at.overflow_mul-begin c).After-span_stands, ap (λ (n : ℕ). c.args.page * n) c.bytes.ensures.is)
+overflow_mul-begin c = omega (arith, (stands (goal.at.overflow_mul-begin c).After-page_bytes_stay).ends c.size_at-whole.result c.size_at-whole.ensures c.span_stands.ensures.fits, ap (λ (n : ℕ). c.args.page * n) c.bytes.ensures.is)
 
 pub overflow_add-end : goal.overflow_add-end
-overflow_add-end c = omega (arith, ends (goal.at.overflow_add-end c).After-span_stands, c.bytes-2.ensures.is, ap (λ (n : ℕ). c.args.page * n) c.bytes.ensures.is)
+overflow_add-end c = omega (arith, (stands (goal.at.overflow_add-end c).After-page_bytes_stay).ends c.size_at-whole.result c.size_at-whole.ensures c.span_stands.ensures.fits, c.bytes-2.ensures.is, ap (λ (n : ℕ). c.args.page * n) c.bytes.ensures.is)
 
 pub overflow_add-at : goal.overflow_add-at
-overflow_add-at c =
-    let v = stands (goal.at.overflow_add-at c).After-page_bytes_stay in
-    omega (
-      arith,
-      extent_within c.page_bytes_stay.ensures.extents c.args.p c.args.blob.now c.args.log.now c.args.version c.extent-at.result.0 c.extent-at.result.1 c.requires.log
-          v.some v.upto c.extent-at.ensures.at c.extent-at.ensures.len,
-    )
+overflow_add-at c = omega (arith, (stands (goal.at.overflow_add-at c).After-page_bytes_stay).inside, c.extent-at.ensures.at, c.extent-at.ensures.len)
 
 pub overflow_sub-result-3 : goal.overflow_sub-result-3
 overflow_sub-result-3 c =
@@ -83,26 +58,20 @@ overflow_sub-result-3 c =
 
 pub returns-clause-start : goal.returns-clause-start
 returns-clause-start c =
-    let x : Extent = extent_at (extents c.args.blob.now.updates) c.args.version in
-    let are = bounds (goal.at.returns-clause-start c).After-min-high in
-    ap (λ (n : ℕ). n - c.args.page * c.bytes.result) are.0 ∙ ap (λ (n : ℕ). leaf_lo c.args.p x c.args.page - c.args.page * n) c.bytes.ensures.is
+    rw ((bounds (goal.at.returns-clause-start c).After-min-high).0, c.bytes.ensures.is)
 
 pub returns-clause-from : goal.returns-clause-from
 returns-clause-from c =
-    let x : Extent = extent_at (extents c.args.blob.now.updates) c.args.version in
-    let are = bounds (goal.at.returns-clause-from c).After-min-high in
-    ap (λ (n : ℕ). n - c.extent-at.result.0) are.0 ∙ ap (λ (n : ℕ). leaf_lo c.args.p x c.args.page - n) c.extent-at.ensures.at
+    rw ((bounds (goal.at.returns-clause-from c).After-min-high).0, c.extent-at.ensures.at)
 
 pub returns-clause-len : goal.returns-clause-len
 returns-clause-len c =
-    let x : Extent = extent_at (extents c.args.blob.now.updates) c.args.version in
     let are = bounds (goal.at.returns-clause-len c).After-min-high in
-    ap (λ (n : ℕ). n - c.max-low.result) are.1 ∙ ap (λ (n : ℕ). leaf_hi c.args.p x c.args.page - n) are.0
+    rw (are.0, are.1)
 
 pub returns-clause-some : goal.returns-clause-some
 returns-clause-some c =
-    let S : ℕ → Type 0 = λ n. 1 ≤ n in
-    subst S (sym (returns-clause-len c)) (part_fits (goal.at.returns-clause-some c).After-min-high).0
+    rw (returns-clause-len c) (part_fits (goal.at.returns-clause-some c).After-min-high).0
 
 pub returns-clause-small : goal.returns-clause-small
 returns-clause-small c = omega (arith, returns-clause-start c, returns-clause-len c, (part_fits (goal.at.returns-clause-small c).After-min-high).1)

@@ -1,31 +1,19 @@
-use Rattle.std.proofs.Common.{◌^◌, ◌≡◌, ℕ, ◌+◌, ◌/◌, ◌≤◌, List, arith, ap, sym, subst}
-use Rattle.blob_model.specs.Content.{Update}
+use Rattle.std.proofs.Common.{◌≡◌, ℕ, ◌+◌, ◌/◌, ◌≤◌, arith, ap}
 use Rattle.tree_geom.specs.declared.range.Range.{Range}
 use Rattle.tree_geom.specs.Geometry.{page_range}
-use Rattle.range_log.specs.Log.{HasNode}
-use Rattle.blob_core.specs.World.{log_of}
-use Rattle.blob_core.proofs.Rowing.{VersionStands, version_stands, range_fits, even_size, page_of}
+use Rattle.blob_core.proofs.Rowing.{VersionStands, version_stands, even_size, page_of}
 use Rattle.blob_core.proofs.nodes.row_node.Goals as goal
-use Rattle.blob_core.proofs.nodes.row_node.Goals.{After-page_bytes_stay, After-span_stands}
+use Rattle.blob_core.proofs.nodes.row_node.Goals.{After-page_bytes_stay}
 
-stands : (c : After-page_bytes_stay) → VersionStands c.args.p c.args.blob.now c.args.log.now c.args.version
-stands c = version_stands c.page_bytes_stay.ensures.extents c.args.p c.args.blob.now c.args.log.now c.args.version c.args.range c.requires.log c.requires.has
-
--- the range ends where a tree may end
-ends : (c : After-span_stands) → (c.args.range).offset + (c.args.range).size ≤ 2 ^ 40
-ends c =
-    range_fits c.args.p c.args.blob.now.updates c.args.log.now c.args.version c.size_at.result c.args.range c.requires.log.is c.requires.has c.size_at.ensures
-    c.span_stands.ensures.fits
+stands : (c : After-page_bytes_stay) → VersionStands c.args.p c.args.blob.now c.args.log.now c.args.version c.args.range
+stands c = version_stands c.page_bytes_stay.ensures.extents c.requires.log c.requires.has
 
 pub row_leaf-requires-clause-has : goal.row_leaf-requires-clause-has
 row_leaf-requires-clause-has c =
-    let us : List Update = c.args.blob.now.updates in
     let pos : 1 ≤ c.args.p = omega (arith, c.bytes.ensures.bounds.0, c.bytes.ensures.is) in
     let size : c.args.range.size ≡ c.args.p = omega (arith, c.if-range-bytes.true, c.bytes.ensures.is) in
     let page : c.args.range ≡ page_range c.args.p (c.args.range.offset / c.args.p) = page_of c.args.p c.args.range pos c.requires.has.aligned size in
-    let H : Range → Type 0 = λ r. HasNode c.args.p (log_of c.args.p us) c.args.version r in
-    let I : ℕ → Type 0 = λ n. HasNode c.args.p (log_of c.args.p us) c.args.version (page_range c.args.p (c.args.range.offset / n)) in
-    subst I (sym c.bytes-then-range-bytes.ensures.is) (subst H page c.requires.has)
+    rw (c.bytes-then-range-bytes.ensures.is, ← page) c.requires.has
 
 pub size_at-requires : goal.size_at-requires
 size_at-requires c = (stands (goal.at.size_at-requires c).After-page_bytes_stay).within
@@ -39,7 +27,7 @@ halves-requires-clause-even c =
     even_size c.args.p c.args.range pos c.requires.has.aligned (λ same. omega (arith, same, c.if-range-bytes.false, c.bytes.ensures.is))
 
 pub halves-requires-clause-fits : goal.halves-requires-clause-fits
-halves-requires-clause-fits c = ends (goal.at.halves-requires-clause-fits c).After-span_stands
+halves-requires-clause-fits c = (stands (goal.at.halves-requires-clause-fits c).After-page_bytes_stay).ends c.size_at.result c.size_at.ensures c.span_stands.ensures.fits
 
 pub newest-requires-clause-within : goal.newest-requires-clause-within
 newest-requires-clause-within c = (stands (goal.at.newest-requires-clause-within c).After-page_bytes_stay).within
@@ -50,9 +38,9 @@ newest-requires-2-clause-within c = (stands (goal.at.newest-requires-2-clause-wi
 pub newest-requires-clause-fits : goal.newest-requires-clause-fits
 newest-requires-clause-fits c =
     let E : Range → ℕ = λ r. r.offset + r.size in
-    omega (arith, ends (goal.at.newest-requires-clause-fits c).After-span_stands, ap E c.halves.ensures.lower)
+    omega (arith, (stands (goal.at.newest-requires-clause-fits c).After-page_bytes_stay).ends c.size_at.result c.size_at.ensures c.span_stands.ensures.fits, ap E c.halves.ensures.lower)
 
 pub newest-requires-2-clause-fits : goal.newest-requires-2-clause-fits
 newest-requires-2-clause-fits c =
     let E : Range → ℕ = λ r. r.offset + r.size in
-    omega (arith, ends (goal.at.newest-requires-2-clause-fits c).After-span_stands, ap E c.halves.ensures.upper)
+    omega (arith, (stands (goal.at.newest-requires-2-clause-fits c).After-page_bytes_stay).ends c.size_at.result c.size_at.ensures c.span_stands.ensures.fits, ap E c.halves.ensures.upper)

@@ -1,6 +1,5 @@
 use Rattle.std.proofs.Common.{◌≡◌, ℕ, ◌-◌, ◌*◌, ◌≤◌, List, [], ◌++◌, arith, refl, ap, sym, subst, ◌∙◌, Vec, Global}
 use Rattle.std.specs.Prelude.{Option, Some, IfOk}
-use Rattle.blob_model.specs.Content.{put}
 use Rattle.tree_geom.specs.declared.range.Range.{Range}
 use Rattle.tree_geom.specs.declared.node.Node.{Node}
 use Rattle.tree_geom.specs.declared.node.Node.TheVariants.{Inner, Leaf}
@@ -53,9 +52,8 @@ returns-in_default-node t c =
     let here = goal.at.returns-in_default-node t c in
     let at = node_here here.After-bytes-2 in
     let there = kept_here here.After-find_kept in
-    let some : Node → Option Node = λ n. Some n in
     c.new-own.ensures.items
-    ∙ sym (leaf_inner c.args.most c.args.p w c.args.blob c.args.version c.args.page (Inner c.in_default-node.field-0 c.in_default-node.field-1) c.in-Some-find_kept.kept.now refl (at ∙ sym c.in-Some.ensures ∙ ap some c.in_default-node.is) (there ∙ c.in-Some-find_kept.ensures))
+    ∙ sym (leaf_inner c.args.most c.args.p w c.args.blob c.args.version c.args.page (Inner c.in_default-node.field-0 c.in_default-node.field-1) c.in-Some-find_kept.kept.now refl (at ∙ sym c.in-Some.ensures ∙ ap {B = Option Node} Some c.in_default-node.is) (there ∙ c.in-Some-find_kept.ensures))
 
 pub returns : goal.returns
 returns t c =
@@ -63,16 +61,12 @@ returns t c =
     let here = goal.at.returns t c in
     let at = node_here here.After-bytes-2 in
     let there = kept_here here.After-find_kept in
-    let some : Node → Option Node = λ n. Some n in
     let kept : UpdateEntry = c.in-Some-find_kept.kept.now in
     let pages : c.kept.inside.pages.items ≡ kept.pages = ap (λ (k : UpdateEntry). k.pages) c.kept.view_is in
     let older : List ℕ = c.if-back-eq0.older.items in
     let B : List ℕ → Piece → List ℕ = λ l q. bytes_of_piece w c.args.blob c.args.version c.args.page l q in
     let own_is : c.add_piece-2.new.bytes.items ≡ B kept.pages c.in-Leaf.first ++ B kept.pages c.in-Leaf.second =
-    c.in_ok-add_piece-2.ensures
-    ∙ ap (λ (l : List ℕ). l ++ B c.as_slice-pages.result.now c.in-Leaf.second)
-    (c.in_ok-add_piece.ensures ∙ ap (λ (l : List ℕ). l ++ B c.as_slice-pages.result.now c.in-Leaf.first) c.new-own.ensures.items)
-    ∙ ap (λ (l : List ℕ). B l c.in-Leaf.first ++ B l c.in-Leaf.second) (c.as_slice-pages.ensures.value ∙ pages) in
+    rw (c.in_ok-add_piece-2.ensures, c.in_ok-add_piece.ensures, c.new-own.ensures.items, c.as_slice-pages.ensures.value, pages) in
     let none : c.in-Leaf.back ≡ 0 → older ≡ [] = λ z.
     elim c.if-back-eq0.branch [
       | then-back-eq0 x ↦ ap (λ (v : Vec ℕ Global). v.items) x.older-is ∙ x.new-older.ensures.items
@@ -84,8 +78,8 @@ returns t c =
       | else-back-eq0+in_ok-older x ↦ ap (λ (v : Vec ℕ Global). v.items) x.older-is ∙ x.in_ok-older.ensures
     ] in
     let is = leaf_on c.args.most c.args.p w c.args.blob c.args.version c.args.page (Leaf c.in-Leaf.start c.in-Leaf.count c.in-Leaf.first c.in-Leaf.second c.in-Leaf.depth c.in-Leaf.back) kept older c.add_piece-2.new.bytes.items (omega arith) refl
-    (at ∙ sym c.in-Some.ensures ∙ ap some c.in-Leaf.is) (there ∙ c.in-Some-find_kept.ensures) none on own_is in
+    (at ∙ sym c.in-Some.ensures ∙ ap {B = Option Node} Some c.in-Leaf.is) (there ∙ c.in-Some-find_kept.ensures) none on own_is in
     let Q : List ℕ → Type 0 = λ x. IfOk c.put_over.result (λ bytes. bytes.items ≡ x) in
     subst Q
-    (ap (λ (l : List ℕ). put l c.in-Leaf.start c.as_slice-4.result.now) c.as_slice-3.ensures.value ∙ ap (λ (l : List ℕ). put older c.in-Leaf.start l) c.as_slice-4.ensures.value ∙ is)
+    (rw (c.as_slice-3.ensures.value, c.as_slice-4.ensures.value) is)
     c.put_over.ensures

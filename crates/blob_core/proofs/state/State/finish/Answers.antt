@@ -15,14 +15,10 @@ use Rattle.blob_core.proofs.state.State.finish.Goals as goal
 use Rattle.blob_core.proofs.state.State.finish.Goals.{In-Some-blob, then-is_marked-via-then-is_marked, then-is_marked-via-else-is_marked+then-not-are_there}
 
 row_here : (c : In-Some-blob) → RowStands c.args.p c.args.self.now c.args.blob c.args.version c.in-Some-blob.stored.now c.in-Some.row.log.items c.in-Some.row.keys.items
-row_here c =
-    row_stands c.args.p c.args.self.now c.args.blob c.args.version c.in-Some-blob.stored.now _ c.in-Some.row (c.steps_hold.ensures.stays c.args.p c.args.self.now c.requires)
-    c.in-Some-blob.ensures c.in_ok-row.ensures c.in-Some.is
+row_here c = row_stands (c.steps_hold.ensures.stays c.args.p c.args.self.now c.requires) c.in-Some-blob.ensures c.in_ok-row.ensures c.in-Some.is
 
 pub is_marked-requires : goal.is_marked-requires
 is_marked-requires c =
-    let w : World = c.args.self.now in
-    let b : Blob = c.in-Some-blob.stored.now in
     let row = row_here (goal.at.is_marked-requires c).In-Some-blob in
     (row.own.some, omega (arith, row.own.upto, row.sound.marks))
 

@@ -1,5 +1,5 @@
 use Rattle.std.proofs.Common.{◌≡◌, ℕ, ◌+◌, ◌-◌, ◌<◌, Bool, false, List, ◌∷◌, length, arith, ap, sym, subst, ◌∙◌, vec_len}
-use Rattle.std.specs.Prelude.{◌==◌, if◌then◌else◌, Option, Some, slice_set, vec_capacity}
+use Rattle.std.specs.Prelude.{◌==◌, if◌then◌else◌, Some, slice_set, vec_capacity}
 use Rattle.std.specs.List.{insert}
 use Rattle.std.proofs.lemmas.Option.{get_or_from_slice_get}
 use Rattle.blob_model.specs.Content.{Update}
@@ -13,7 +13,7 @@ use Rattle.range_log.specs.Log.{size_at}
 use Rattle.blob_core.specs.World.{World, UpdateEntry, waiting_after}
 use Rattle.blob_core.specs.Standing.{IsSound}
 use Rattle.blob_core.specs.Steps.{next_kept}
-use Rattle.blob_core.specs.Acts.{IsDone, AreJoined}
+use Rattle.blob_core.specs.Acts.{IsDone}
 use Rattle.blob_core.specs.declared.world.UpdateKey.{UpdateKey}
 use Rattle.blob_core.specs.declared.step.Step.TheVariants as Moves
 use Rattle.blob_core.specs.contracts.state.State.{the_view}
@@ -27,11 +27,8 @@ use Rattle.blob_core.proofs.state.State.number.Goals.{In-Some-blob}
 sound : (c : In-Some-blob) → IsSound c.args.p c.args.self.now c.args.blob c.in-Some-blob.stored.now
 sound c = (c.steps_hold.ensures.stays c.args.p c.args.self.now c.requires).blobs c.args.blob c.in-Some-blob.stored.now c.in-Some-blob.ensures
 
-pub touches_of-requires-clause-replay : goal.touches_of-requires-clause-replay
-touches_of-requires-clause-replay c = (sound (goal.at.touches_of-requires-clause-replay c).In-Some-blob).replay
-
-pub touches_of-requires-clause-fits : goal.touches_of-requires-clause-fits
-touches_of-requires-clause-fits c = (sound (goal.at.touches_of-requires-clause-fits c).In-Some-blob).fits
+pub touches_of-requires : goal.touches_of-requires
+touches_of-requires c = let s = sound (goal.at.touches_of-requires c).In-Some-blob in record { replay = s.replay; fits = s.fits }
 
 pub size_at-size-requires : goal.size_at-size-requires
 size_at-size-requires c = omega (arith, c.len.ensures, ap length c.as_slice-3.ensures.value)
@@ -49,11 +46,10 @@ refuses_update-requires-clause-fits c =
     let s = sound (goal.at.refuses_update-requires-clause-fits c).In-Some-blob in
     omega (arith, refuses_update-requires-clause-size c, s.fits (assigned c.in-Some-blob.stored.now) (omega arith))
 
-pub kept_beside-requires-clause-front : goal.kept_beside-requires-clause-front
-kept_beside-requires-clause-front c = omega (arith, (sound (goal.at.kept_beside-requires-clause-front c).In-Some-blob).front, c.in_ok-log.ensures.count, ap length c.as_slice-4.ensures.value)
-
-pub kept_beside-requires-clause-log : goal.kept_beside-requires-clause-log
-kept_beside-requires-clause-log c = omega (arith, c.in_ok-log.ensures.count, ap length c.as_slice-4.ensures.value)
+pub kept_beside-requires : goal.kept_beside-requires
+kept_beside-requires c =
+    let count : length c.as_slice-4.result.now ≡ assigned c.in-Some-blob.stored.now = ap length c.as_slice-4.ensures.value ∙ c.in_ok-log.ensures.count in
+    record { front = omega (arith, (sound (goal.at.kept_beside-requires c).In-Some-blob).front, count); log = count }
 
 pub overflow_add-key : goal.overflow_add-key
 overflow_add-key c = omega (arith, c.len-2.ensures, c.in_ok-log.ensures.count, (sound (goal.at.overflow_add-key c).In-Some-blob).few)
@@ -81,10 +77,7 @@ returns-clause-done c =
     let b : Blob = c.in-Some-blob.stored.now in
     let At : World → Type 0 = λ x. blob_at x.store c.args.blob ≡ Some b in
     let there : At v = subst At (sym to) c.in-Some-blob.ensures in
-    let Js : List (ℕ × List ℕ) → Type 0 = λ l. AreJoined c.args.p l c.as_slice-2.result.now c.in_ok-bytes.field-0 in
-    let Jn : List ℕ → Type 0 = λ l. AreJoined c.args.p v.pages l c.in_ok-bytes.field-0 in
-    let Jo : Option (List ℕ) → Type 0 = λ o. AreJoined c.args.p v.pages c.args.pages.now o in
-    let joins : Jo (Some c.in-Some.bytes) = subst Jo c.in-Some.is (subst Jn c.as_slice-2.ensures (subst Js c.as_slice.ensures.value c.in_ok-bytes.ensures)) in
+    let joins = rw (c.as_slice.ensures.value, c.as_slice-2.ensures, c.in-Some.is) at c.in_ok-bytes.ensures in
     let u : Update = record { caller = c.args.caller; place = c.args.place; bytes = c.in-Some.bytes } in
     let Taken : World → Type 0 = λ x. is_refused (answer x.store c.args.caller (Calls.Assign c.args.blob c.args.place c.in-Some.bytes)).1 ≡ false in
     let taken : Taken v = subst Taken (sym to) (sym c.refuses_update.ensures ∙ c.if-refuses_update.false) in

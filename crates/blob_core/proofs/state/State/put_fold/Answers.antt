@@ -2,14 +2,14 @@ use Rattle.std.proofs.Common.{◌≡◌, ℕ, ◌-◌, ◌≤◌, true, List, le
 use Rattle.std.specs.Prelude.{None}
 use Rattle.blob_model.specs.Store.{Blob, published, true_prefix}
 use Rattle.tree_geom.specs.declared.touch.Touch.{Touch}
-use Rattle.tree_geom.specs.Geometry.{height_of, page_range}
+use Rattle.tree_geom.specs.Geometry.{page_range}
 use Rattle.range_log.specs.Log.{HasNode, size_at}
 use Rattle.range_log.specs.Extents.{extent_at, size_after}
 use Rattle.range_log.specs.Updates.{extents, update_at}
 use Rattle.range_log.proofs.Bytes.{length-extents}
-use Rattle.blob_core.specs.World.{World, IsKnown, fold_at, log_of}
+use Rattle.blob_core.specs.World.{World, fold_at, log_of}
 use Rattle.blob_core.specs.Steps.{over_page}
-use Rattle.blob_core.specs.Walk.{page_walk, tree_walk_from}
+use Rattle.blob_core.specs.Walk.{page_walk}
 use Rattle.blob_core.specs.Acts.{IsDone, IsLogOf}
 use Rattle.blob_core.specs.declared.world.FoldKey.{FoldKey}
 use Rattle.blob_core.specs.declared.step.Step.TheVariants as Moves
@@ -23,12 +23,10 @@ use Rattle.blob_core.proofs.state.State.put_fold.Goals as goal
 use Rattle.blob_core.proofs.state.State.put_fold.Goals.{After-marked-front, After-has_fold, then-not-folds_page-via-then-not-folds_page, then-not-folds_page-via-else-not-folds_page+then-front-version}
 
 row_here : (c : After-marked-front) → RowStands c.args.p c.args.self.now c.args.blob c.args.version c.in-Some-blob.stored.now c.in-Some.row.log.items c.in-Some.row.keys.items
-row_here c =
-    row_stands c.args.p c.args.self.now c.args.blob c.args.version c.in-Some-blob.stored.now _ c.in-Some.row (c.steps_hold.ensures.stays c.args.p c.args.self.now c.requires)
-    c.in-Some-blob.ensures c.in_ok-row.ensures c.in-Some.is
+row_here c = row_stands (c.steps_hold.ensures.stays c.args.p c.args.self.now c.requires) c.in-Some-blob.ensures c.in_ok-row.ensures c.in-Some.is
 
 logged : (c : After-marked-front) → IsLogOf c.args.p c.in-Some-blob.stored.now c.as_slice-log.result.now
-logged c = let L : List Touch → Type 0 = λ l. IsLogOf c.args.p c.in-Some-blob.stored.now l in subst L (sym c.as_slice-log.ensures.value) (row_here c).touches
+logged c = rw c.as_slice-log.ensures.value (row_here c).touches
 
 front : (c : After-marked-front) → published c.in-Some-blob.stored.now ≡ c.marked-front.result
 front c = ap (λ (x : Blob). true_prefix x.finished) (sym c.stored.view_is) ∙ ap true_prefix (sym c.as_slice.ensures.value) ∙ sym c.marked-front.ensures.is
@@ -69,12 +67,10 @@ returns-then-not-folds_page-clause-refused c answer =
 
 pub returns-then-has_fold-clause-done : goal.returns-then-has_fold-clause-done
 returns-then-has_fold-clause-done c =
-    let same : c.as_slice-2.result.now ≡ c.args.self.now.folded = c.as_slice-2.ensures.value ∙ ap (λ (x : World). x.folded) c.self.view_is in
-    let K : List (FoldKey × List ℕ) → Type 0 = λ l. IsKnown (fold_at l c.args.blob c.args.version c.args.page) in
-    let found : K c.args.self.now.folded = subst K same (c.has_fold.ensures.there c.if-has_fold.true) in
+    let (bytes, is) = c.has_fold.ensures.there c.if-has_fold.true in
     let here = goal.at.returns-then-has_fold-clause-done c in
-    fold_kept c.args.p c.args.self.now c.args.blob c.args.version c.args.page c.in-Some-blob.stored.now found.0
-    (may here.After-has_fold (row_here here.After-marked-front) (front here.After-marked-front)) found.1
+    fold_kept c.args.p c.args.self.now c.args.blob c.args.version c.args.page c.in-Some-blob.stored.now bytes
+    (may here.After-has_fold (row_here here.After-marked-front) (front here.After-marked-front)) (rw (c.as_slice-2.ensures.value ∙ ap (λ (x : World). x.folded) c.self.view_is) at is)
 
 pub overflow_sub-number : goal.overflow_sub-number
 overflow_sub-number c = (row_here (goal.at.overflow_sub-number c).After-marked-front).own.some
@@ -126,14 +122,9 @@ returns-clause-done c =
     let May : World → Type 0 = λ x. MayFold p x c.args.blob k i b in
     let none : fold_at v.folded c.args.blob k i ≡ None =
     ap (λ (l : List (FoldKey × List ℕ)). fold_at l c.args.blob k i) (sym c.as_slice-2.ensures.value) ∙ c.has_fold.ensures.missing c.if-has_fold.false in
-    let le : k - 1 ≤ length b.updates = omega (arith, row.own.upto) in
     let size : size_at c.as_slice-log.result.now (k - 1) ≡ size_after (extents b.updates) (k - 1) =
-    ap (λ (l : List Touch). size_at l (k - 1)) (logged here.After-marked-front).is ∙ size_in_log p b.updates (k - 1) le in
-    let walk : c.as_slice-3.result.now ≡ page_walk p v c.args.blob b (k - 1) i =
-    c.as_slice-3.ensures.value
-    ∙ c.in_ok-older.ensures
-    ∙ ap (λ (n : ℕ). (tree_walk_from (height_of p n) p c.args.self.now c.args.blob (k - 1) 0 i i).bytes) size
-    ∙ ap (λ (x : World). page_walk p x c.args.blob b (k - 1) i) (sym to) in
+    ap (λ (l : List Touch). size_at l (k - 1)) (logged here.After-marked-front).is ∙ size_in_log p b.updates (k - 1) (omega (arith, row.own.upto)) in
+    let walk : c.as_slice-3.result.now ≡ page_walk p v c.args.blob b (k - 1) i = rw (c.as_slice-3.ensures.value, c.in_ok-older.ensures, size, to) in
     let over : List ℕ → List ℕ = λ older. over_page p (extent_at (extents b.updates) k) i (update_at b.updates k).bytes older in
     let bytes : c.of.result ≡ over (page_walk p v c.args.blob b (k - 1) i) = c.of.ensures ∙ c.in_ok-bytes.ensures ∙ ap over walk in
     let Done : World → Type 0 = λ x. IsDone p x (Moves.FoldPut c.args.blob k i)

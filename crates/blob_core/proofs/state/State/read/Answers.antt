@@ -1,5 +1,4 @@
-use Rattle.std.proofs.Common.{◌≡◌, ℕ, ◌+◌, ◌-◌, ◌*◌, ◌/◌, ◌^◌, ◌<◌, ◌≤◌, false, List, ◌++◌, length, take, drop, arith, ap, sym, ◌∙◌}
-use Rattle.std.specs.Prelude.{Option, Some}
+use Rattle.std.proofs.Common.{◌≡◌, ℕ, ◌+◌, ◌*◌, ◌/◌, ◌^◌, ◌<◌, ◌≤◌, false, List, length, arith, ap, sym, ◌∙◌}
 use Rattle.std.proofs.Math.Nat.{pow-le-pow_right, div-mul-le_self}
 use Rattle.blob_model.specs.Content.{size_of}
 use Rattle.blob_model.specs.Store.{Blob, assigned}
@@ -7,12 +6,9 @@ use Rattle.blob_model.specs.Answer.{answer}
 use Rattle.blob_model.specs.History.{is_refused}
 use Rattle.blob_model.specs.declared.call.Call.TheVariants as Calls
 use Rattle.tree_geom.specs.declared.touch.Touch.{Touch}
-use Rattle.tree_geom.specs.Geometry.{height_of}
 use Rattle.range_log.specs.Log.{size_at}
 use Rattle.range_log.specs.Extents.{size_after}
 use Rattle.range_log.specs.Updates.{extents}
-use Rattle.blob_core.specs.World.{World}
-use Rattle.blob_core.specs.Walk.{tree_walk_from}
 use Rattle.blob_core.specs.Standing.{IsSound}
 use Rattle.blob_core.proofs.Growing.{size_in_log}
 use Rattle.blob_core.proofs.Walking.{read_within, walked_some, walked_cut}
@@ -34,11 +30,8 @@ within c =
 size_is : (c : After-size_at) → c.args.version ≤ assigned c.in-Some.stored.now → c.size_at.result ≡ size_of c.in-Some.stored.now.updates c.args.version
 size_is c upto = c.size_at.ensures ∙ ap (λ (l : List Touch). size_at l c.args.version) c.as_slice.ensures.value ∙ c.in_ok-log.ensures.sizes c.args.version upto
 
-pub touches_of-requires-clause-replay : goal.touches_of-requires-clause-replay
-touches_of-requires-clause-replay c = (sound (goal.at.touches_of-requires-clause-replay c).In-Some).replay
-
-pub touches_of-requires-clause-fits : goal.touches_of-requires-clause-fits
-touches_of-requires-clause-fits c = (sound (goal.at.touches_of-requires-clause-fits c).In-Some).fits
+pub touches_of-requires : goal.touches_of-requires
+touches_of-requires c = let s = sound (goal.at.touches_of-requires c).In-Some in record { replay = s.replay; fits = s.fits }
 
 pub size_at-requires : goal.size_at-requires
 size_at-requires c = omega (arith, (within (goal.at.size_at-requires c).In-Some).0, c.in_ok-log.ensures.count, ap length c.as_slice.ensures.value)
@@ -95,31 +88,21 @@ pub returns : goal.returns
 returns c =
     let here = (goal.at.returns c).In-Some in
     let b : Blob = c.in-Some.stored.now in
-    let upto = (within here).0 in
-    let w : World = c.args.self.now in
-    let p : ℕ = c.args.p in
-    let W : ℕ → ℕ → ℕ → List ℕ = λ h f l. (tree_walk_from h p w c.args.blob c.args.version 0 f l).bytes in
-    let levels : c.height-levels.result ≡ height_of p (size_after (extents b.updates) c.args.version) =
-    c.height-levels.ensures.is
-    ∙ ap (λ (n : ℕ). height_of p n)
-    (c.size_at.ensures ∙ ap (λ (l : List Touch). size_at l c.args.version) (c.as_slice.ensures.value ∙ c.in_ok-log.ensures.log) ∙ size_in_log p b.updates c.args.version upto) in
-    let H : ℕ = height_of p (size_after (extents b.updates) c.args.version) in
-    let first : c.args.offset / c.bytes.result ≡ c.args.offset / p = ap (λ (n : ℕ). c.args.offset / n) c.bytes.ensures.is in
-    let last : (c.args.offset + c.args.length - 1) / c.bytes-2.result ≡ (c.args.offset + c.args.length - 1) / p = ap (λ (n : ℕ). (c.args.offset + c.args.length - 1) / n) c.bytes-2.ensures.is in
-    let pages : c.add_tree.new.bytes.items ≡ W H (c.args.offset / p) ((c.args.offset + c.args.length - 1) / p) =
-    c.in_ok-add_tree.ensures
-    ∙ ap (λ (l : List ℕ). l ++ W c.height-levels.result (c.args.offset / c.bytes.result) ((c.args.offset + c.args.length - 1) / c.bytes-2.result)) c.new-pages.ensures.items
-    ∙ ap (λ (h : ℕ). W h (c.args.offset / c.bytes.result) ((c.args.offset + c.args.length - 1) / c.bytes-2.result)) levels
-    ∙ ap (λ (f : ℕ). W H f ((c.args.offset + c.args.length - 1) / c.bytes-2.result)) first
-    ∙ ap (λ (l : ℕ). W H (c.args.offset / p) l) last in
-    let skipped : c.args.offset - c.args.offset / c.bytes.result * c.bytes-3.result ≡ c.args.offset - c.args.offset / p * p =
-    ap (λ (f : ℕ). c.args.offset - f * c.bytes-3.result) first ∙ ap (λ (n : ℕ). c.args.offset - c.args.offset / p * n) c.bytes-3.ensures.is in
-    let bytes : c.extend_from_slice.new.self.items ≡ take c.args.length (drop (c.args.offset - c.args.offset / p * p) (W H (c.args.offset / p) ((c.args.offset + c.args.length - 1) / p))) =
-    c.in_ok-extend_from_slice.ensures.items
-    ∙ ap (λ (l : List ℕ). l ++ c.part.result.now) c.new-bytes.ensures.items
-    ∙ c.part.ensures
-    ∙ ap (λ (l : List ℕ). take c.args.length (drop (c.args.offset - c.args.offset / c.bytes.result * c.bytes-3.result) l)) (c.as_slice-2.ensures.value ∙ pages)
-    ∙ ap (λ (n : ℕ). take c.args.length (drop n (W H (c.args.offset / p) ((c.args.offset + c.args.length - 1) / p)))) skipped in
-    let some : List ℕ → Option (List ℕ) = λ l. Some l in
-    ap some (c.of-2.ensures ∙ bytes ∙ sym (walked_cut p w c.args.blob c.args.version c.args.offset c.args.length b (omega arith)))
-    ∙ sym (walked_some p w c.args.blob c.args.version c.args.offset c.args.length b c.in-Some.ensures (taken here))
+    let size : c.size_at.result ≡ size_after (extents b.updates) c.args.version =
+    c.size_at.ensures ∙ ap (λ (l : List Touch). size_at l c.args.version) (c.as_slice.ensures.value ∙ c.in_ok-log.ensures.log) ∙ size_in_log c.args.p b.updates c.args.version (within here).0 in
+    rw (
+      walked_some c.args.p c.args.self.now c.args.blob c.args.version c.args.offset c.args.length b c.in-Some.ensures (taken here),
+      walked_cut c.args.p c.args.self.now c.args.blob c.args.version c.args.offset c.args.length b (omega arith),
+      c.of-2.ensures,
+      c.in_ok-extend_from_slice.ensures.items,
+      c.new-bytes.ensures.items,
+      c.part.ensures,
+      c.as_slice-2.ensures.value,
+      c.in_ok-add_tree.ensures,
+      c.new-pages.ensures.items,
+      c.height-levels.ensures.is,
+      size,
+      c.bytes.ensures.is,
+      c.bytes-2.ensures.is,
+      c.bytes-3.ensures.is,
+    )

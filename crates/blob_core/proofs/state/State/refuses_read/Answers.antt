@@ -19,11 +19,8 @@ upto c =
     ap (λ (x : Blob). true_prefix x.finished) (sym c.stored.view_is) ∙ ap true_prefix (sym c.as_slice.ensures.value) ∙ sym c.marked.ensures.is in
     omega (arith, front, c.if-marked-version.false)
 
-pub touches_of-requires-clause-replay : goal.touches_of-requires-clause-replay
-touches_of-requires-clause-replay c = (sound (goal.at.touches_of-requires-clause-replay c).In-Some).replay
-
-pub touches_of-requires-clause-fits : goal.touches_of-requires-clause-fits
-touches_of-requires-clause-fits c = (sound (goal.at.touches_of-requires-clause-fits c).In-Some).fits
+pub touches_of-requires : goal.touches_of-requires
+touches_of-requires c = let s = sound (goal.at.touches_of-requires c).In-Some in record { replay = s.replay; fits = s.fits }
 
 pub size_at-size-requires : goal.size_at-size-requires
 size_at-size-requires c =

@@ -19,11 +19,8 @@ sound c = (c.steps_hold.ensures.stays c.args.p c.args.self.now c.requires).blobs
 upto : (c : Else-own-blob) → c.args.version ≤ assigned c.in-Some.stored.now
 upto c = omega (arith, c.len-assigned.ensures, c.if-assigned-version.false, ap (λ (x : Blob). assigned x) c.stored.view_is, c.stored.inside.updates.ok.0)
 
-pub touches_of-requires-clause-replay : goal.touches_of-requires-clause-replay
-touches_of-requires-clause-replay c = (sound (goal.at.touches_of-requires-clause-replay c).In-Some).replay
-
-pub touches_of-requires-clause-fits : goal.touches_of-requires-clause-fits
-touches_of-requires-clause-fits c = (sound (goal.at.touches_of-requires-clause-fits c).In-Some).fits
+pub touches_of-requires : goal.touches_of-requires
+touches_of-requires c = let s = sound (goal.at.touches_of-requires c).In-Some in record { replay = s.replay; fits = s.fits }
 
 pub row_keys-requires-clause-of_updates : goal.row_keys-requires-clause-of_updates
 row_keys-requires-clause-of_updates c =
