@@ -35,46 +35,26 @@ use Rattle.world_acts.proofs.Folding.{with_fold_is, known_after}
 use Rattle.world_acts.proofs.Growing.{stands, step_grows}
 
 -- ---- what no put changes
-put_store : (p : ℕ) (w : World) (step : Step) → IsPut step → (after p w step).store ≡ w.store
-put_store p w (Moves.PagePut page bytes) put = refl
-put_store p w (Moves.Create caller) put = absurd put
-put_store p w (Moves.Assign caller blob place pages) put = absurd put
-put_store p w (Moves.FoldPut blob version page) put = refl
-put_store p w (Moves.NodePut key) put = refl
-put_store p w (Moves.Finish caller blob version) put = absurd put
-put_store p w (Moves.Branch caller blob version) put = absurd put
-put_store p w (Moves.Read blob version offset count) put = absurd put
+record KeepsRest (w v : World) : Type 0 where
+  store : v.store ≡ w.store
+  lineage : v.lineage ≡ w.lineage
+  updates : v.updates ≡ w.updates
 
-put_lineage : (p : ℕ) (w : World) (step : Step) → IsPut step → (after p w step).lineage ≡ w.lineage
-put_lineage p w (Moves.PagePut page bytes) put = refl
-put_lineage p w (Moves.Create caller) put = absurd put
-put_lineage p w (Moves.Assign caller blob place pages) put = absurd put
-put_lineage p w (Moves.FoldPut blob version page) put = refl
-put_lineage p w (Moves.NodePut key) put = refl
-put_lineage p w (Moves.Finish caller blob version) put = absurd put
-put_lineage p w (Moves.Branch caller blob version) put = absurd put
-put_lineage p w (Moves.Read blob version offset count) put = absurd put
-
-put_updates : (p : ℕ) (w : World) (step : Step) (blob version : ℕ) → IsPut step → kept_at (after p w step).updates blob version ≡ kept_at w.updates blob version
-put_updates p w (Moves.PagePut page bytes) blob version put = refl
-put_updates p w (Moves.Create caller) blob version put = absurd put
-put_updates p w (Moves.Assign caller other place pages) blob version put = absurd put
-put_updates p w (Moves.FoldPut other v page) blob version put = refl
-put_updates p w (Moves.NodePut key) blob version put = refl
-put_updates p w (Moves.Finish caller other v) blob version put = absurd put
-put_updates p w (Moves.Branch caller other v) blob version put = absurd put
-put_updates p w (Moves.Read other v offset count) blob version put = absurd put
+put_keeps : (p : ℕ) (w : World) (step : Step) → IsPut step → KeepsRest w (after p w step)
+put_keeps p w (Moves.PagePut page bytes) put = record { store = refl; lineage = refl; updates = refl }
+put_keeps p w (Moves.FoldPut blob version page) put = record { store = refl; lineage = refl; updates = refl }
+put_keeps p w (Moves.NodePut key) put = record { store = refl; lineage = refl; updates = refl }
+put_keeps p w step put = absurd put
 
 reached_next : (p : ℕ) (w : World) (step : Step) → IsReached p w → IsAllowed p w step → IsReached p (after p w step)
 reached_next p w step a ok =
     let e : World = empty_world a.limits in
-    let A : World → Type 0 = λ x. IsAllowed p x step in
     record {
       limits = a.limits;
       within = a.within;
       some = a.some;
       steps = a.steps ++ step ∷ [];
-      allowed = allowed_append p e a.steps (step ∷ []) a.allowed (subst A a.is ok, tt);
+      allowed = allowed_append p e a.steps (step ∷ []) a.allowed (rw a.is at ok, tt);
       is = ap (λ (x : World). after p x step) a.is ∙ sym (world_append p e a.steps (step ∷ []));
     }
 
@@ -83,9 +63,8 @@ reached_next p w step a ok =
 absent_swapped : (pages : List (ℕ × List ℕ)) (k q : ℕ) (x y : List ℕ) → page_at pages k ≡ None → page_at ((k, x) ∷ pages) q ≡ None → (b : Bool) → same_number q k ≡ b
     → page_at ((q, y) ∷ pages) k ≡ None
 absent_swapped pages k q x y none other true t =
-    let P : ℕ → Type 0 = λ n. page_at ((k, x) ∷ pages) n ≡ None in
     let itself : same_number k k ≡ true = grind (arith, nat_tests) in
-    absurd (none_some (page_at ((k, x) ∷ pages) k) x (subst P (number_means q k t) other) (entry_new same_number pages k x itself))
+    absurd (none_some (page_at ((k, x) ∷ pages) k) x (rw (number_means q k t) at other) (entry_new same_number pages k x itself))
 absent_swapped pages k q x y none other false t = rw t none
 
 page_new : (p : ℕ) (w : World) (page : ℕ) (bytes : List ℕ) → page_at (after p w (Moves.PagePut page bytes)).pages page ≡ Some bytes
@@ -100,37 +79,28 @@ page_was p w (Moves.PagePut n own) page bytes put is =
       | inl new ↦ inl (ap (λ (k : ℕ). Moves.PagePut k own) new.0 ∙ ap (λ (b : List ℕ). Moves.PagePut page b) new.1)
       | inr old ↦ inr old
     ]
-page_was p w (Moves.Create caller) page bytes put is = absurd put
-page_was p w (Moves.Assign caller blob place pages) page bytes put is = absurd put
 page_was p w (Moves.FoldPut blob version i) page bytes put is = inr is
 page_was p w (Moves.NodePut key) page bytes put is = inr is
-page_was p w (Moves.Finish caller blob version) page bytes put is = absurd put
-page_was p w (Moves.Branch caller blob version) page bytes put is = absurd put
-page_was p w (Moves.Read blob version offset count) page bytes put is = absurd put
+page_was p w step page bytes put is = absurd put
 
 -- ---- pages that an update stored anew, and nodes
 fold_was : (p : ℕ) (w : World) (step : Step) (blob version page : ℕ) → IsPut step → IsAllowed p w step → IsKnown (fold_at (after p w step).folded blob version page)
     → (step ≡ Moves.FoldPut blob version page) ⊎ IsKnown (fold_at w.folded blob version page)
 fold_was p w (Moves.PagePut n own) blob version page put ok is = inr is
-fold_was p w (Moves.Create caller) blob version page put ok is = absurd put
-fold_was p w (Moves.Assign caller other place pages) blob version page put ok is = absurd put
 fold_was p w (Moves.FoldPut other v i) blob version page put ok is =
     let (b, own, folded, before) = ok in
     let key : FoldKey = record { blob = other; version = v; page = i } in
     let asked : FoldKey = record { blob = blob; version = version; page = page } in
-    let F : List (FoldKey × List ℕ) → Type 0 = λ l. fold_at l blob version page ≡ Some is.0 in
     elim (with_fold_is p w other v i b folded.kept own.there folded.there (fold_at w.folded other v i) refl) [
-      | inl same ↦ inr (is.0, subst F same is.1)
+      | inl same ↦ inr (is.0, rw same at is.1)
       | inr new ↦
-          elim (entry_old same_fold w.folded key (folded_page p w other b folded.kept v i) asked is.0 (fold_means key asked) (subst F new.1 is.1)) [
+          elim (entry_old same_fold w.folded key (folded_page p w other b folded.kept v i) asked is.0 (fold_means key asked) (rw new.1 at is.1)) [
             | inl here ↦ inl (ap (λ (k : FoldKey). Moves.FoldPut k.blob k.version k.page) here.0)
             | inr old ↦ inr (is.0, old)
           ]
     ]
 fold_was p w (Moves.NodePut key) blob version page put ok is = inr is
-fold_was p w (Moves.Finish caller other v) blob version page put ok is = absurd put
-fold_was p w (Moves.Branch caller other v) blob version page put ok is = absurd put
-fold_was p w (Moves.Read other v offset count) blob version page put ok is = absurd put
+fold_was p w step blob version page put ok is = absurd put
 
 fold_new : (p : ℕ) (w : World) (blob version page : ℕ) → IsAllowed p w (Moves.FoldPut blob version page) → IsKnown (fold_at (after p w (Moves.FoldPut blob version page)).folded blob version page)
 fold_new p w blob version page ok =
@@ -147,36 +117,29 @@ module _ (stay : ReachedStays) (p : ℕ) (w : World) (a : IsReached p w) where
   node_was : (step : Step) (key : NodeKey) → IsPut step → IsAllowed p w step → IsKnown (node_at (after p w step).nodes key)
       → (step ≡ Moves.NodePut key) ⊎ IsKnown (node_at w.nodes key)
   node_was (Moves.PagePut n own) key put ok is = inr is
-  node_was (Moves.Create caller) key put ok is = absurd put
-  node_was (Moves.Assign caller other place pages) key put ok is = absurd put
   node_was (Moves.FoldPut other v i) key put ok is = inr is
   node_was (Moves.NodePut other) key put ok is =
       let (b, own, has, folded) = ok in
       let row : WeavesRow p w other.blob b other.version = row_of stay p w other.blob other.version b a own in
-      let N : List (NodeKey × Node) → Type 0 = λ l. node_at l key ≡ Some is.0 in
       elim (with_node_is p w other b row.kept own.there row.there (node_at w.nodes other) refl) [
-        | inl same ↦ inr (is.0, subst N same is.1)
+        | inl same ↦ inr (is.0, rw same at is.1)
         | inr new ↦
-            elim (entry_old same_key w.nodes other (woven p w other.blob b row.kept other.version other.range) key is.0 (key_means other key) (subst N new.1 is.1)) [
+            elim (entry_old same_key w.nodes other (woven p w other.blob b row.kept other.version other.range) key is.0 (key_means other key) (rw new.1 at is.1)) [
               | inl here ↦ inl (ap (λ (k : NodeKey). Moves.NodePut k) here.0)
               | inr old ↦ inr (is.0, old)
             ]
       ]
-  node_was (Moves.Finish caller other v) key put ok is = absurd put
-  node_was (Moves.Branch caller other v) key put ok is = absurd put
-  node_was (Moves.Read other v offset count) key put ok is = absurd put
+  node_was step key put ok is = absurd put
 
   node_new_in : (key : NodeKey) (b : Blob) (kept : UpdateEntry) → blob_at w.store key.blob ≡ Some b → kept_at w.updates key.blob key.version ≡ Some kept
       → (o : Option Node) → node_at w.nodes key ≡ o → IsKnown (node_at (with_node p w key) key)
   node_new_in key b kept there has None none =
       let itself : same_key key key ≡ true = grind (arith, nat_tests) in
-      let N : List (NodeKey × Node) → Type 0 = λ l. node_at l key ≡ Some (woven p w key.blob b kept key.version key.range) in
       let is : with_node p w key ≡ (key, woven p w key.blob b kept key.version key.range) ∷ w.nodes = rw (none, there, has, with_node_by) refl in
-      (woven p w key.blob b kept key.version key.range, subst N (sym is) (entry_new same_key w.nodes key (woven p w key.blob b kept key.version key.range) itself))
+      (woven p w key.blob b kept key.version key.range, rw is (entry_new same_key w.nodes key (woven p w key.blob b kept key.version key.range) itself))
   node_new_in key b kept there has (Some n) here =
-      let N : List (NodeKey × Node) → Type 0 = λ l. node_at l key ≡ Some n in
       let is : with_node p w key ≡ w.nodes = rw (here, with_node_by) refl in
-      (n, subst N (sym is) here)
+      (n, rw is here)
 
   node_new : (key : NodeKey) → IsAllowed p w (Moves.NodePut key) → IsKnown (node_at (after p w (Moves.NodePut key)).nodes key)
   node_new key ok =
@@ -207,8 +170,7 @@ module _ (stay : ReachedStays) (p : ℕ) (u v : World) (of_u : IsReached p u) (o
 holds : StepsHold → (p : ℕ) (w : World) → IsReached p w → NodesAreRows p w × FoldsArePages p w
 holds hold p w a =
     let it = hold p a.limits a.steps a.some a.allowed in
-    let P : World → Type 0 = λ x. NodesAreRows p x × FoldsArePages p x in
-    subst P (sym a.is) (it.nodes, it.folds)
+    rw a.is (it.nodes, it.folds)
 
 module _ (hold : StepsHold) (p : ℕ) (u v : World) (of_u : IsReached p u) (of_v : IsReached p v) (store : u.store ≡ v.store) where
   same_node : (key : NodeKey) (n : Node) → node_at u.nodes key ≡ Some n → IsKnown (node_at v.nodes key) → node_at v.nodes key ≡ Some n
@@ -236,25 +198,19 @@ module _ (c : Cited) (hold : StepsHold) (stay : ReachedStays) (p : ℕ) where
   absent_after : (w : World) (page : ℕ) (bytes : List ℕ) (other : Step) → IsPut other → page_at w.pages page ≡ None
       → IsAllowed p (after p w (Moves.PagePut page bytes)) other → page_at (after p w other).pages page ≡ None
   absent_after w page bytes (Moves.PagePut n own) put none next = absent_swapped w.pages page n bytes own none next.0 (same_number n page) refl
-  absent_after w page bytes (Moves.Create caller) put none next = absurd put
-  absent_after w page bytes (Moves.Assign caller blob place pages) put none next = absurd put
   absent_after w page bytes (Moves.FoldPut blob version i) put none next = none
   absent_after w page bytes (Moves.NodePut key) put none next = none
-  absent_after w page bytes (Moves.Finish caller blob version) put none next = absurd put
-  absent_after w page bytes (Moves.Branch caller blob version) put none next = absurd put
-  absent_after w page bytes (Moves.Read blob version offset count) put none next = absurd put
+  absent_after w page bytes step put none next = absurd put
 
   allowed_after : (w : World) (one other : Step) → IsReached p w → IsPut one → IsPut other → IsAllowed p w one → IsAllowed p w other
       → IsAllowed p (after p w one) other → IsAllowed p (after p w other) one
   allowed_after w (Moves.PagePut page bytes) other a put put' ok ok' next = (absent_after w page bytes other put' ok.0 next, ok.1, ok.2)
-  allowed_after w (Moves.Create caller) other a put put' ok ok' next = absurd put
-  allowed_after w (Moves.Assign caller blob place pages) other a put put' ok ok' next = absurd put
   allowed_after w (Moves.FoldPut blob version page) other a put put' ok ok' next =
       let (b, own, folded, before) = ok in
       let v : World = after p w other in
       let of_v : IsReached p v = reached_next p w other a ok' in
-      let store : w.store ≡ v.store = sym (put_store p w other put') in
-      let lineage : w.lineage ≡ v.lineage = sym (put_lineage p w other put') in (
+      let store : w.store ≡ v.store = sym (put_keeps p w other put').store in
+      let lineage : w.lineage ≡ v.lineage = sym (put_keeps p w other put').lineage in (
         b,
         numbered_too stay p w v a of_v store lineage blob version b own,
         folded_too stay p w v a of_v store lineage blob version b page own folded,
@@ -264,8 +220,8 @@ module _ (c : Cited) (hold : StepsHold) (stay : ReachedStays) (p : ℕ) where
       let (b, own, has, folded) = ok in
       let v : World = after p w other in
       let of_v : IsReached p v = reached_next p w other a ok' in
-      let store : w.store ≡ v.store = sym (put_store p w other put') in
-      let lineage : w.lineage ≡ v.lineage = sym (put_lineage p w other put') in
+      let store : w.store ≡ v.store = sym (put_keeps p w other put').store in
+      let lineage : w.lineage ≡ v.lineage = sym (put_keeps p w other put').lineage in
       let there : IsNumberedIn v key.blob key.version b = numbered_too stay p w v a of_v store lineage key.blob key.version b own in (
         b,
         there,
@@ -275,9 +231,7 @@ module _ (c : Cited) (hold : StepsHold) (stay : ReachedStays) (p : ℕ) where
             let known : IsKnown (fold_at w.folded key.blob key.version page) = folded page at was in
             (known.0, (grows w other a ok').folded key.blob key.version page known.0 known.1)),
       )
-  allowed_after w (Moves.Finish caller blob version) other a put put' ok ok' next = absurd put
-  allowed_after w (Moves.Branch caller blob version) other a put put' ok ok' next = absurd put
-  allowed_after w (Moves.Read blob version offset count) other a put put' ok ok' next = absurd put
+  allowed_after w step other a put put' ok ok' next = absurd put
 
   -- What the world after two puts has, the world after them in the other order has.
   has_all : (w : World) (one other : Step) → IsReached p w → IsPut one → IsPut other → IsAllowed p w one → IsAllowed p w other
@@ -292,7 +246,7 @@ module _ (c : Cited) (hold : StepsHold) (stay : ReachedStays) (p : ℕ) where
       let y : World = after p v one in
       let of_x : IsReached p x = reached_next p u other of_u next in
       let of_y : IsReached p y = reached_next p v one of_v next' in
-      let store : x.store ≡ y.store = put_store p u other put' ∙ put_store p w one put ∙ sym (put_store p v one put ∙ put_store p w other put') in
+      let store : x.store ≡ y.store = (put_keeps p u other put').store ∙ (put_keeps p w one put).store ∙ sym ((put_keeps p v one put).store ∙ (put_keeps p w other put').store) in
       let first : HasAllOf w v = grows w other a ok' in
       let second : HasAllOf v y = grows v one of_v next' in
       let Allowed : Step → World → Type 0 = λ step z. IsAllowed p z step in
@@ -300,17 +254,11 @@ module _ (c : Cited) (hold : StepsHold) (stay : ReachedStays) (p : ℕ) where
       let FoldIn : World → ℕ → ℕ → ℕ → Type 0 = λ z blob version page. IsKnown (fold_at z.folded blob version page) in
       let NodeIn : World → NodeKey → Type 0 = λ z key. IsKnown (node_at z.nodes key) in
       let by_page : (z : World) (page : ℕ) (bytes : List ℕ) (step : Step) → step ≡ Moves.PagePut page bytes → PageIn (after p z step) page bytes =
-      λ z page bytes step is. (let P : Step → Type 0 = λ s. PageIn (after p z s) page bytes in subst P (sym is) (page_new p z page bytes)) in
+      λ z page bytes step is. rw is (page_new p z page bytes) in
       let by_fold : (z : World) (blob version page : ℕ) (step : Step) → Allowed step z → step ≡ Moves.FoldPut blob version page → FoldIn (after p z step) blob version page =
-      λ z blob version page step may is.
-      (let F : Step → Type 0 = λ s. FoldIn (after p z s) blob version page in
-      let A : Step → Type 0 = λ s. IsAllowed p z s in
-      subst F (sym is) (fold_new p z blob version page (subst A is may))) in
+      λ z blob version page step may is. rw is (fold_new p z blob version page (rw is at may)) in
       let by_node : (z : World) (key : NodeKey) (step : Step) → IsReached p z → Allowed step z → step ≡ Moves.NodePut key → NodeIn (after p z step) key =
-      λ z key step of may is.
-      (let N : Step → Type 0 = λ s. NodeIn (after p z s) key in
-      let A : Step → Type 0 = λ s. IsAllowed p z s in
-      subst N (sym is) (node_new stay p z of key (subst A is may))) in
+      λ z key step of may is. rw is (node_new stay p z of key (rw is at may)) in
       record {
         pages = λ page bytes is.
             elim (page_was p u other page bytes put' is) [
@@ -322,7 +270,9 @@ module _ (c : Cited) (hold : StepsHold) (stay : ReachedStays) (p : ℕ) where
                   ]
             ];
         updates = λ blob version kept is.
-            put_updates p v one blob version put ∙ put_updates p w other blob version put' ∙ sym (put_updates p u other blob version put' ∙ put_updates p w one blob version put) ∙ is;
+            ap (λ (l : List (UpdateKey × UpdateEntry)). kept_at l blob version)
+            ((put_keeps p v one put).updates ∙ (put_keeps p w other put').updates ∙ sym ((put_keeps p u other put').updates ∙ (put_keeps p w one put).updates))
+            ∙ is;
         folded = λ blob version page bytes is.
             (let known : FoldIn y blob version page =
             elim (fold_was p u other blob version page put' next (bytes, is)) [
@@ -354,8 +304,8 @@ module _ (c : Cited) (hold : StepsHold) (stay : ReachedStays) (p : ℕ) where
       let u : World = after p w one in
       let v : World = after p w other in
       record {
-        store = put_store p u other put' ∙ put_store p w one put ∙ sym (put_store p v one put ∙ put_store p w other put');
-        lineage = put_lineage p u other put' ∙ put_lineage p w one put ∙ sym (put_lineage p v one put ∙ put_lineage p w other put');
+        store = (put_keeps p u other put').store ∙ (put_keeps p w one put).store ∙ sym ((put_keeps p v one put).store ∙ (put_keeps p w other put').store);
+        lineage = (put_keeps p u other put').lineage ∙ (put_keeps p w one put).lineage ∙ sym ((put_keeps p v one put).lineage ∙ (put_keeps p w other put').lineage);
         there = has_all w one other a put put' ok ok' next next';
         back = has_all w other one a put' put ok' ok next' next;
       }
@@ -413,8 +363,7 @@ module _ (c : Cited) (hold : StepsHold) (stay : ReachedStays) (p : ℕ) where
   allowed_too u v (Moves.Create caller) of_u of_v same ok = taken_too u v (Events.Create caller) same.store ok
   allowed_too u v (Moves.Assign caller blob place pages) of_u of_v same ok =
       let both = pages_too u v same.there p pages ok.0 in
-      let T : List ℕ → Type 0 = λ bytes. IsTaken v.store (Events.Assign caller blob place bytes) in
-      (both.0, subst T both.1 (taken_too u v (Events.Assign caller blob place (bytes_of_pages u.pages pages)) same.store ok.1))
+      (both.0, rw both.1 at (taken_too u v (Events.Assign caller blob place (bytes_of_pages u.pages pages)) same.store ok.1))
   allowed_too u v (Moves.FoldPut blob version page) of_u of_v same ok =
       let (b, own, folded, before) = ok in (
         b,
@@ -447,37 +396,23 @@ module _ (c : Cited) (hold : StepsHold) (stay : ReachedStays) (p : ℕ) where
       subst (λ (s : Store). is_refused (answer s 0 (Calls.Read blob version offset count)).1 ≡ false) same.store ok
 
   events_too : (u v : World) (step : Step) → IsSameWorld u v → IsAllowed p u step → events_of u step ≡ events_of v step
-  events_too u v (Moves.PagePut page bytes) same ok = refl
-  events_too u v (Moves.Create caller) same ok = refl
   events_too u v (Moves.Assign caller blob place pages) same ok =
       ap (λ (bytes : List ℕ). Events.Assign caller blob place bytes ∷ []) (pages_too u v same.there p pages ok.0).1
-  events_too u v (Moves.FoldPut blob version page) same ok = refl
-  events_too u v (Moves.NodePut key) same ok = refl
-  events_too u v (Moves.Finish caller blob version) same ok = refl
-  events_too u v (Moves.Branch caller blob version) same ok = refl
-  events_too u v (Moves.Read blob version offset count) same ok = refl
+  events_too u v step same ok = refl
 
   store_too : (u v : World) (step : Step) → IsSameWorld u v → IsAllowed p u step → (after p u step).store ≡ (after p v step).store
-  store_too u v (Moves.PagePut page bytes) same ok = same.store
   store_too u v (Moves.Create caller) same ok = ap (λ (s : Store). store_from s (Events.Create caller ∷ [])) same.store
   store_too u v (Moves.Assign caller blob place pages) same ok =
       ap (λ (s : Store). store_from s (Events.Assign caller blob place (bytes_of_pages u.pages pages) ∷ [])) same.store
       ∙ ap (λ (bytes : List ℕ). store_from v.store (Events.Assign caller blob place bytes ∷ [])) (pages_too u v same.there p pages ok.0).1
-  store_too u v (Moves.FoldPut blob version page) same ok = same.store
-  store_too u v (Moves.NodePut key) same ok = same.store
   store_too u v (Moves.Finish caller blob version) same ok = ap (λ (s : Store). store_from s (Events.Finish caller blob version ∷ [])) same.store
   store_too u v (Moves.Branch caller blob version) same ok = ap (λ (s : Store). store_from s (Events.Branch caller blob version ∷ [])) same.store
-  store_too u v (Moves.Read blob version offset count) same ok = same.store
+  store_too u v step same ok = same.store
 
   lineage_too : (u v : World) (step : Step) → IsSameWorld u v → (after p u step).lineage ≡ (after p v step).lineage
-  lineage_too u v (Moves.PagePut page bytes) same = same.lineage
   lineage_too u v (Moves.Create caller) same = ap (λ (l : List (Option Parent)). None ∷ l) same.lineage
-  lineage_too u v (Moves.Assign caller blob place pages) same = same.lineage
-  lineage_too u v (Moves.FoldPut blob version page) same = same.lineage
-  lineage_too u v (Moves.NodePut key) same = same.lineage
-  lineage_too u v (Moves.Finish caller blob version) same = same.lineage
   lineage_too u v (Moves.Branch caller blob version) same = ap (λ (l : List (Option Parent)). Some (record { blob = blob; version = version }) ∷ l) same.lineage
-  lineage_too u v (Moves.Read blob version offset count) same = same.lineage
+  lineage_too u v step same = same.lineage
 
   has_too : (u v : World) (step : Step) → IsReached p u → IsReached p v → IsSameWorld u v → IsAllowed p u step → IsAllowed p v step → HasAllOf (after p u step) (after p v step)
   has_too u v (Moves.PagePut page bytes) of_u of_v same ok ok' =
@@ -488,8 +423,6 @@ module _ (c : Cited) (hold : StepsHold) (stay : ReachedStays) (p : ℕ) where
         folded = same.there.folded;
         nodes = same.there.nodes;
       }
-  has_too u v (Moves.Create caller) of_u of_v same ok ok' =
-      record { pages = same.there.pages; updates = same.there.updates; folded = same.there.folded; nodes = same.there.nodes }
   has_too u v (Moves.Assign caller blob place pages) of_u of_v same ok ok' =
       let (b, is, fits, store) = assign_done u.store caller blob place (bytes_of_pages u.pages pages) ok.1 in
       let too : blob_at v.store blob ≡ Some b = ap (λ (s : Store). blob_at s blob) (sym same.store) ∙ is in
@@ -499,10 +432,9 @@ module _ (c : Cited) (hold : StepsHold) (stay : ReachedStays) (p : ℕ) where
         pages = same.there.pages;
         updates = λ id n kept e.
             (let q : UpdateKey = record { blob = id; version = n } in
-            let K : List (UpdateKey × UpdateEntry) → Type 0 = λ l. kept_at l id n ≡ Some kept in
-            subst K (sym (with_update_is p v blob pages b too))
+            rw (with_update_is p v blob pages b too)
             (entry_both same_update u.updates v.updates key (next_kept p b pages) q kept (update_means key q) (update_itself key) (same.there.updates id n kept) none
-            (subst K (with_update_is p u blob pages b is) e)));
+            (rw (with_update_is p u blob pages b is) at e)));
         folded = same.there.folded;
         nodes = same.there.nodes;
       }
@@ -540,11 +472,7 @@ module _ (c : Cited) (hold : StepsHold) (stay : ReachedStays) (p : ℕ) where
             ] in
             same_node hold p (after p u put) (after p v put) (reached_next p u put of_u ok) (reached_next p v put of_v ok') same.store k n is known);
       }
-  has_too u v (Moves.Finish caller blob version) of_u of_v same ok ok' =
-      record { pages = same.there.pages; updates = same.there.updates; folded = same.there.folded; nodes = same.there.nodes }
-  has_too u v (Moves.Branch caller blob version) of_u of_v same ok ok' =
-      record { pages = same.there.pages; updates = same.there.updates; folded = same.there.folded; nodes = same.there.nodes }
-  has_too u v (Moves.Read blob version offset count) of_u of_v same ok ok' = same.there
+  has_too u v step of_u of_v same ok ok' = record { pages = same.there.pages; updates = same.there.updates; folded = same.there.folded; nodes = same.there.nodes }
 
   go_on : (u v : World) (steps : List Step) → IsReached p u → IsReached p v → IsSameWorld u v → AllAllowed p u steps
       → AllAllowed p v steps × (events_from p u steps ≡ events_from p v steps) × IsSameWorld (world_after p u steps) (world_after p v steps)

@@ -14,7 +14,6 @@ use Rattle.blob_model.specs.declared.call.Event.TheVariants as Events
 use Rattle.blob_model.specs.declared.call.Refusal.{Refusal}
 use Rattle.branching.specs.Parents.{origin_of}
 use Rattle.branching.specs.declared.Parent.{Parent}
-use Rattle.tree_geom.specs.declared.range.Range.{Range}
 use Rattle.tree_geom.specs.declared.node.Node.{Node}
 use Rattle.range_log.specs.Updates.{extents}
 use Rattle.range_log.specs.Rows.{row_keys_of, node_of}
@@ -48,15 +47,13 @@ pub numbered_by : (o : Option Blob) (b : Blob) (version : ℕ) → o ≡ Some b 
 numbered_by None b version is n = absurd n
 numbered_by (Some x) b version is n =
     let same : x ≡ b = cc in
-    let P : Blob → Type 0 = λ y. (1 ≤ version) × (version ≤ assigned y) in
-    subst P same n
+    rw same at n
 
 -- a version that isn't finished was numbered in its own blob
 pub numbered_in : StoresAgree → (f : DeskFixed) (history : List (ℕ × Event)) (w : World) (blob version : ℕ) (b : Blob) → IsWorldOf f history w → blob_at w.store blob ≡ Some b → 1 ≤ version
     → version ≤ assigned b → is_finished b version ≡ false → IsNumberedIn w blob version b
 numbered_in agree f history w blob version b a is some le e =
-    let O : Store → Type 0 = λ s. Owns s (parents_of (events history)) in
-    let o : Owns w.store (parents_of (events history)) = subst O (sym (agree f history w a)) (owns f.limits (events history) a.log.legal) in
+    let o : Owns w.store (parents_of (events history)) = rw (agree f history w a) (owns f.limits (events history) a.log.legal) in
     record {
       there = is;
       some = some;
@@ -72,10 +69,8 @@ row_there : (p : ℕ) (w : World) (blob version : ℕ) (b : Blob) (us : List Upd
     → RowIsThere p w blob version b
 row_there p w blob version b us row same own under put r among =
     let node : Node = node_of p (extents us) version r in
-    let K : List Update → Type 0 = λ l. Contains (row_keys_of p (log_of p l) version) r in
-    let C : List (Range × Node) → Type 0 = λ l. Contains l (r, node) in
-    let inside : Contains row.nodes (r, node) = subst C (sym own.nodes)
-    (contains_map (λ q. (q, node_of p (extents us) version q)) (row_keys_of p (log_of p us) version) r (subst K (sym same) among)) in
+    let inside : Contains row.nodes (r, node) = rw own.nodes
+    (contains_map (λ q. (q, node_of p (extents us) version q)) (row_keys_of p (log_of p us) version) r (rw same among)) in
     let N : ℕ → ℕ → Type 0 = λ i v. node_at w.nodes (record { blob = i; version = v; range = r }) ≡ Some node in
     (node, subst (λ (v : ℕ). N blob v) own.version (subst (λ (i : ℕ). N i row.version) under (put r node inside)))
 

@@ -6,12 +6,11 @@ use Rattle.blob_model.specs.Store.{Store, Blob, blob_at, published}
 use Rattle.blob_model.specs.History.{store_from}
 use Rattle.blob_model.specs.declared.call.Event.{Event}
 use Rattle.blob_model.proofs.Stays.{store_kept}
-use Rattle.blob_core.specs.World.{World, UpdateEntry, empty_world, fold_at, kept_at, same_fold, bytes_of_pages}
+use Rattle.blob_core.specs.World.{World, UpdateEntry, empty_world, fold_at, kept_at, same_fold}
 use Rattle.blob_core.specs.declared.world.FoldKey.{FoldKey}
-use Rattle.blob_core.specs.Steps.{IsAllowed, AllAllowed, after, world_after, with_fold, folded_page}
+use Rattle.blob_core.specs.Steps.{events_of, IsAllowed, AllAllowed, after, world_after, with_fold, folded_page}
 use Rattle.blob_core.specs.declared.step.Step.{Step}
 use Rattle.blob_core.specs.declared.step.Step.TheVariants as Moves
-use Rattle.blob_model.specs.declared.call.Event.TheVariants as Events
 use Rattle.blob_core.proofs.Lists.{entry_old, fold_means}
 use Rattle.version_manager.specs.Desks.{published_in, published_or_none}
 use Rattle.version_manager.specs.Log.{desk_at}
@@ -50,17 +49,10 @@ fold_case p w blob version page b kept h there has before at v i bytes is =
     ]
 
 step_follows : (p : ℕ) (w : World) (step : Step) → Follows w → IsAllowed p w step → Follows (after p w step)
-step_follows p w (Moves.PagePut page bytes) h ok = h
-step_follows p w (Moves.Create caller) h ok = λ at v i bs is. later w.store (Events.Create caller ∷ []) at v (h at v i bs is)
-step_follows p w (Moves.Assign caller blob place pages) h ok =
-    λ at v i bs is. later w.store (Events.Assign caller blob place (bytes_of_pages w.pages pages) ∷ []) at v (h at v i bs is)
 step_follows p w (Moves.FoldPut blob version page) h ok =
     let (b, own, folded, before) = ok in
     fold_case p w blob version page b folded.kept h own.there folded.there before
-step_follows p w (Moves.NodePut key) h ok = h
-step_follows p w (Moves.Finish caller blob version) h ok = λ at v i bs is. later w.store (Events.Finish caller blob version ∷ []) at v (h at v i bs is)
-step_follows p w (Moves.Branch caller blob version) h ok = λ at v i bs is. later w.store (Events.Branch caller blob version ∷ []) at v (h at v i bs is)
-step_follows p w (Moves.Read blob version offset count) h ok = h
+step_follows p w step h ok = λ at v i bs is. later w.store (events_of w step) at v (h at v i bs is)
 
 follows_on : (p : ℕ) (w : World) (steps : List Step) → Follows w → AllAllowed p w steps → Follows (world_after p w steps)
 follows_on p w [] h ok = h

@@ -2,9 +2,7 @@
 use Rattle.std.proofs.Common.{◌≡◌, ℕ, ◌+◌, ◌≤◌, List, [], ◌∷◌, refl, sym, subst, inl, inr}
 use Rattle.std.specs.Prelude.{Some}
 use Rattle.blob_model.specs.Store.{assigned}
-use Rattle.tree_geom.specs.declared.node.Node.{Node}
-use Rattle.tree_geom.specs.declared.node.NodeKey.{NodeKey}
-use Rattle.blob_core.specs.World.{World, UpdateEntry, empty_world, fold_at, kept_at, node_at, same_number, same_update, same_fold, same_key, bytes_of_pages}
+use Rattle.blob_core.specs.World.{World, empty_world, fold_at, kept_at, node_at, same_number, same_update, same_fold, same_key, bytes_of_pages}
 use Rattle.blob_core.specs.Woven.{woven}
 use Rattle.blob_core.specs.Steps.{IsAllowed, AllAllowed, after, world_after, folded_page, next_kept}
 use Rattle.blob_core.specs.Standing.{IsReached}
@@ -44,17 +42,14 @@ step_grows p w (Moves.PagePut page bytes) s ok = record {
   folded = λ blob version i b is. is;
   nodes = λ key n is. is;
 }
-step_grows p w (Moves.Create caller) s ok =
-    record { pages = λ page bytes is. is; updates = λ blob version kept is. is; folded = λ blob version page bytes is. is; nodes = λ key n is. is }
 step_grows p w (Moves.Assign caller blob place pages) s ok =
     let (b, is, fits, store) = assign_done w.store caller blob place (bytes_of_pages w.pages pages) ok.1 in
     let key : UpdateKey = record { blob = blob; version = assigned b + 1 } in
     record {
       pages = λ page bytes e. e;
       updates = λ id v kept e.
-          (let K : List (UpdateKey × UpdateEntry) → Type 0 = λ l. kept_at l id v ≡ Some kept in
-          let q : UpdateKey = record { blob = id; version = v } in
-          subst K (sym (with_update_is p w blob pages b is))
+          (let q : UpdateKey = record { blob = id; version = v } in
+          rw (with_update_is p w blob pages b is)
           (entry_kept same_update w.updates key (next_kept p b pages) q kept (update_means key q) (next_free p w blob b s is (kept_at w.updates blob (assigned b + 1)) refl) e));
       folded = λ id v page bytes e. e;
       nodes = λ k n e. e;
@@ -66,36 +61,28 @@ step_grows p w (Moves.FoldPut blob version page) s ok =
       pages = λ n bytes is. is;
       updates = λ id v kept is. is;
       folded = λ id v i bytes is.
-          (let F : List (FoldKey × List ℕ) → Type 0 = λ l. fold_at l id v i ≡ Some bytes in
-          let q : FoldKey = record { blob = id; version = v; page = i } in
+          (let q : FoldKey = record { blob = id; version = v; page = i } in
           elim (with_fold_is p w blob version page b folded.kept own.there folded.there (fold_at w.folded blob version page) refl) [
-            | inl same ↦ subst F (sym same) is
-            | inr new ↦
-                subst F (sym new.1) (entry_kept same_fold w.folded key (folded_page p w blob b folded.kept version page) q bytes (fold_means key q) new.0 is)
+            | inl same ↦ rw same is
+            | inr new ↦ rw new.1 (entry_kept same_fold w.folded key (folded_page p w blob b folded.kept version page) q bytes (fold_means key q) new.0 is)
           ]);
       nodes = λ k n is. is;
     }
 step_grows p w (Moves.NodePut key) s ok =
     let (b, own, has, folded) = ok in
     let u : UpdateStands p w key.blob b key.version = (s.blobs key.blob b own.there).updates key.version own.some own.upto in
-    let At : ℕ → Type 0 = λ o. kept_at w.updates o key.version ≡ Some u.kept in
-    let kept : kept_at w.updates key.blob key.version ≡ Some u.kept = subst At own.own u.there in
+    let kept : kept_at w.updates key.blob key.version ≡ Some u.kept = rw own.own at u.there in
     record {
       pages = λ n bytes is. is;
       updates = λ id v e is. is;
       folded = λ id v i bytes is. is;
       nodes = λ k n is.
-          (let N : List (NodeKey × Node) → Type 0 = λ l. node_at l k ≡ Some n in
           elim (with_node_is p w key b u.kept own.there kept (node_at w.nodes key) refl) [
-            | inl same ↦ subst N (sym same) is
-            | inr new ↦ subst N (sym new.1) (entry_kept same_key w.nodes key (woven p w key.blob b u.kept key.version key.range) k n (key_means key k) new.0 is)
-          ]);
+            | inl same ↦ rw same is
+            | inr new ↦ rw new.1 (entry_kept same_key w.nodes key (woven p w key.blob b u.kept key.version key.range) k n (key_means key k) new.0 is)
+          ];
     }
-step_grows p w (Moves.Finish caller blob version) s ok =
-    record { pages = λ page bytes is. is; updates = λ id v kept is. is; folded = λ id v page bytes is. is; nodes = λ key n is. is }
-step_grows p w (Moves.Branch caller blob version) s ok =
-    record { pages = λ page bytes is. is; updates = λ id v kept is. is; folded = λ id v page bytes is. is; nodes = λ key n is. is }
-step_grows p w (Moves.Read blob version offset count) s ok = has_itself w
+step_grows p w step s ok = record { pages = λ page bytes is. is; updates = λ id v kept is. is; folded = λ id v page bytes is. is; nodes = λ key n is. is }
 
 steps_grow : Cited → (p : ℕ) (w : World) (steps : List Step) → 1 ≤ p → Stands p w → AllAllowed p w steps → HasAllOf w (world_after p w steps)
 steps_grow c p w [] pos s ok = has_itself w

@@ -49,10 +49,9 @@ module _ (old_stay : OldVersionsStay) (f : DeskFixed) (history more : List (ℕ 
       ap (λ (l : List Event). blob_at (store_of f.limits l) t.blob) (map-append (λ (x : ℕ × Event). x.1) history more) ∙ there in
       let us : updates_in (desk_at f (history ++ more)) t.blob ≡ b.updates ++ stays.later = ap updates_or_none joined ∙ stays.updates in
       let known : published_in (desk_at f (history ++ more)) t.blob ≡ published new = ap published_or_none joined in
-      let T : List Update → Type 0 = λ l. TellUpdates f.page_size l t.snapshot.rows in
       record {
         published = omega (arith, le, known, stays.published);
-        tells = subst T (sym us) (tells_more f.page_size b.updates stays.later t.snapshot.rows (omega (arith, le, published_within f.limits (events history) t.blob b is)) told);
+        tells = rw us (tells_more f.page_size b.updates stays.later t.snapshot.rows (omega (arith, le, published_within f.limits (events history) t.blob b is)) told);
       }
 
 pub hints_stay : OldVersionsStay → HintsStay

@@ -5,7 +5,6 @@ use Rattle.std.specs.Prelude.{Some}
 use Rattle.std.specs.List.{Contains}
 use Rattle.std.proofs.lemmas.Bool.{cases_lt}
 use Rattle.std.proofs.lemmas.List.{map-append, length-map, length-take-le, length-drop, take-append-drop}
-use Rattle.blob_model.specs.Content.{Update}
 use Rattle.blob_model.specs.Store.{Store, Blob, blob_at, published}
 use Rattle.blob_model.specs.Answer.{answer}
 use Rattle.blob_model.specs.History.{store_of, IsAccepted, IsLegal, IsLegalFrom, caller_of, call_of, is_refused}
@@ -219,10 +218,9 @@ module _ (agree : StoresAgree) (hold : StepsHold) (reached : ReachedStays) (grow
       let v : World = after p w (Moves.FoldPut blob version page) in
       let (bytes, is) = known_after p w blob version page b k.kept (own w a).there k.there (fold_at w.folded blob version page) refl in
       let rest : Folded v pages = folding before pages (λ i c. all i (suc c.0, omega (arith, c.1), c.2)) v step.leads in
-      let K : ℕ → Type 0 = λ i. IsKnown (fold_at rest.more.to.folded blob version i) in
       record {
         more = step_more grow e f history w (Moves.FoldPut blob version page) (of_fold page) a step rest.more;
-        known = λ i c. elim (first_or_rest page pages i c) [ inl here ↦ subst K here (bytes, rest.more.all.folded blob version page bytes is) | inr there ↦ rest.known i there ];
+        known = λ i c. elim (first_or_rest page pages i c) [ inl here ↦ rw (← here) (bytes, rest.more.all.folded blob version page bytes is) | inr there ↦ rest.known i there ];
       }
 
   record Woven (w : World) (ranges : List Range) : Type 0 where
@@ -252,10 +250,9 @@ module _ (agree : StoresAgree) (hold : StepsHold) (reached : ReachedStays) (grow
       let kept : HasAllOf w v = grow f history w (Moves.NodePut key ∷ []) a (step.allowed, tt) in
       let rest : Woven v ranges = weaving ranges (λ q c. all q (suc c.0, omega (arith, c.1), c.2)) v step.leads
       (λ page c. (let (bytes, e) = folds page c in (bytes, kept.folded blob version page bytes e))) in
-      let K : Range → Type 0 = λ q. IsKnown (node_at rest.more.to.nodes (record { blob = blob; version = version; range = q })) in
       record {
         more = step_more grow e f history w (Moves.NodePut key) (of_node r) a step rest.more;
-        known = λ q c. elim (first_or_rest r ranges q c) [ inl here ↦ subst K here (n, rest.more.all.nodes key n is) | inr there' ↦ rest.known q there' ];
+        known = λ q c. elim (first_or_rest r ranges q c) [ inl here ↦ rw (← here) (n, rest.more.all.nodes key n is) | inr there' ↦ rest.known q there' ];
       }
 
 -- ---- an event more
@@ -274,9 +271,8 @@ module _ (agree : StoresAgree) (hold : StepsHold) (reached : ReachedStays) (grow
       let one_store : (v : World) → IsWorldOf f history v → blob_at v.store blob ≡ Some b = λ v x. ap (λ (s : Store). blob_at s blob) (agree f history v x ∙ sym (agree f history w a)) ∙ is in
       let own : (v : World) → IsWorldOf f history v → IsNumberedIn v blob version b = λ v x. numbered_in agree f history v blob version b x (one_store v x) range.0 range.1 fresh in
       let there : blob_at (store_of f.limits (events history)) blob ≡ Some b = ap (λ (s : Store). blob_at s blob) (sym (agree f history w a)) ∙ is in
-      let F : List Update → Type 0 = λ us. folds_of p (extents us) version ≢ [] in
       let before : folds_of p (extents b.updates) version ≢ [] → version - 1 ≤ published b = λ some.
-      omega (arith, order (subst F (sym (ap updates_or_none there)) some), ap published_or_none there) in
+      omega (arith, order (rw (ap updates_or_none there) some), ap published_or_none there) in
       let of_fold : (page : ℕ) → IsPutFor e (Moves.FoldPut blob version page) = λ page. inl (page, refl) in
       let of_node : (r : Range) → IsPutFor e (Moves.NodePut (record { blob = blob; version = version; range = r })) = λ r. inr (r, refl) in
       let folds = folding agree hold reached grow f history blob version b own e of_fold of_node before (folds_of p (extents b.updates) version) (λ page c. c) w a in
@@ -289,10 +285,9 @@ module _ (agree : StoresAgree) (hold : StepsHold) (reached : ReachedStays) (grow
       (λ r c. (row_keys_exact p version (extents b.updates) r (page_pos p a.page_size) bounds range.0 long).0 c) u x folds.known in
       let v : World = rows.more.to in
       let y : IsWorldOf f history v = rows.more.world in
-      let T : Store → Type 0 = λ s. is_refused (answer s caller (Calls.Finish blob version)).1 ≡ false in
       let step : IsStep f v (Moves.Finish caller blob version) now =
       one_step f history now v (Moves.Finish caller blob version) y
-      (subst T (agree f history w a ∙ sym (agree f history v y)) ok.accepted, (b, own v y, rows.known)) log
+      (rw (agree f history w a ∙ sym (agree f history v y)) at ok.accepted, (b, own v y, rows.known)) log
       (ap events added ∙ events_more history e) in
       acted f history now w e (Moves.Finish caller blob version) (both_more e f history w folds.more rows.more) refl step refl
 
@@ -338,9 +333,9 @@ legal_front s (x ∷ xs) ys legal = (legal.0, legal_front (answer s (caller_of x
 log_front : (f : DeskFixed) (xs ys : List Event) → IsLegal f.limits (xs ++ ys) → length (xs ++ ys) < 2 ^ 38 → AreInOrder f.page_size f.limits (xs ++ ys) → IsLog f (tagged xs)
 log_front f xs ys legal short order = record {
   tags = ap tagged (sym (events_tagged xs));
-  legal = (let L : List Event → Type 0 = λ l. IsLegal f.limits l in subst L (sym (events_tagged xs)) (legal_front (record { limits = f.limits; blobs = [] }) xs ys legal));
+  legal = rw (events_tagged xs) (legal_front (record { limits = f.limits; blobs = [] }) xs ys legal);
   short = omega (arith, short, length-append xs ys, length-map xs tag);
-  in_order = (let O : List Event → Type 0 = λ l. AreInOrder f.page_size f.limits l in subst O (sym (events_tagged xs)) (order_front f.page_size f.limits xs ys order));
+  in_order = rw (events_tagged xs) (order_front f.page_size f.limits xs ys order);
 }
 
 module _ (agree : StoresAgree) (hold : StepsHold) (reached : ReachedStays) (grow : WorldsOnlyGrow) (f : DeskFixed) (all : List Event) (legal : IsLegal f.limits all) (short : length all < 2 ^ 38)
@@ -355,14 +350,11 @@ module _ (agree : StoresAgree) (hold : StepsHold) (reached : ReachedStays) (grow
 
   on : (done rest : List Event) → all ≡ done ++ rest → (w : World) → IsWorldOf f (tagged done) w → Rest w rest
   on done [] is w a =
-      let W : List Event → Type 0 = λ l. IsWorldOf f (tagged l) w in
-      record { acts = []; are = refl; allowed = tt; tells = refl; world = subst W (sym (is ∙ append-nil done)) a }
+      record { acts = []; are = refl; allowed = tt; tells = refl; world = rw (is ∙ append-nil done) a }
   on done (e ∷ rest) is w a =
       let p : ℕ = f.page_size in
       let longer : all ≡ (done ++ e ∷ []) ++ rest = is ∙ sym (append_assoc done (e ∷ []) rest) in
-      let L : List Event → Type 0 = λ l. IsLegal f.limits l in
-      let O : List Event → Type 0 = λ l. AreInOrder f.page_size f.limits l in
-      let log : IsLog f (tagged (done ++ e ∷ [])) = log_front f (done ++ e ∷ []) rest (subst L longer legal) (subst (λ (l : List Event). length l < 2 ^ 38) longer short) (subst O longer order) in
+      let log : IsLog f (tagged (done ++ e ∷ [])) = log_front f (done ++ e ∷ []) rest (rw longer at legal) (rw longer at short) (rw longer at order) in
       let one = event_more agree hold reached grow f (tagged done) (tagged (done ++ e ∷ [])) w a log e (map-append tag done (e ∷ [])) in
       let v : World = world_after p w one.acts in
       let more = on (done ++ e ∷ []) rest longer v one.world in

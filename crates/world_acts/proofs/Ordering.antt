@@ -1,8 +1,7 @@
 -- By allowed steps an update that stores a page anew is finished after the version before it is published.
-use Rattle.std.proofs.Common.{◌≡◌, ◌≢◌, ◌⊎◌, ℕ, ◌-◌, ◌≤◌, List, [], ◌∷◌, ◌++◌, length, refl, sym, ap, subst, ◌∙◌, arith, inl, inr}
+use Rattle.std.proofs.Common.{◌≡◌, ◌≢◌, ◌⊎◌, ℕ, ◌-◌, ◌≤◌, List, [], ◌∷◌, ◌++◌, length, refl, sym, ap, ◌∙◌, arith, inl, inr}
 use Rattle.std.specs.Prelude.{Some}
 use Rattle.std.specs.List.{Contains}
-use Rattle.blob_model.specs.Content.{Update}
 use Rattle.blob_model.specs.Store.{Store, Blob, blob_at, published}
 use Rattle.blob_model.specs.History.{store_of}
 use Rattle.blob_model.specs.declared.call.Event.{Event}
@@ -34,14 +33,11 @@ use Rattle.world_acts.proofs.Following.{IsAfterPublished, Follows, steps_follow}
 
 -- ---- the step of an event
 one_or_none : (w : World) (step : Step) → (events_of w step ≡ []) ⊎ ((e : Event) × (events_of w step ≡ e ∷ []))
-one_or_none w (Moves.PagePut page bytes) = inl refl
 one_or_none w (Moves.Create caller) = inr (_, refl)
 one_or_none w (Moves.Assign caller blob place pages) = inr (_, refl)
-one_or_none w (Moves.FoldPut blob version page) = inl refl
-one_or_none w (Moves.NodePut key) = inl refl
 one_or_none w (Moves.Finish caller blob version) = inr (_, refl)
 one_or_none w (Moves.Branch caller blob version) = inr (_, refl)
-one_or_none w (Moves.Read blob version offset count) = inl refl
+one_or_none w step = inl refl
 
 -- the steps before it, whose events are those before it, and the step
 record StepOf (p : ℕ) (w : World) (before : List Event) (e : Event) : Type 0 where
@@ -87,14 +83,8 @@ step_of p w (step ∷ steps) (x ∷ before) later e ok is =
     ]
 
 the_finish : (w : World) (step : Step) (caller blob version : ℕ) → events_of w step ≡ Events.Finish caller blob version ∷ [] → step ≡ Moves.Finish caller blob version
-the_finish w (Moves.PagePut page bytes) c b v e = absurd (let no : ⊥ = cc in no)
-the_finish w (Moves.Create caller) c b v e = absurd (let no : ⊥ = cc in no)
-the_finish w (Moves.Assign caller blob place pages) c b v e = absurd (let no : ⊥ = cc in no)
-the_finish w (Moves.FoldPut blob version page) c b v e = absurd (let no : ⊥ = cc in no)
-the_finish w (Moves.NodePut key) c b v e = absurd (let no : ⊥ = cc in no)
 the_finish w (Moves.Finish caller blob version) c b v e = cc
-the_finish w (Moves.Branch caller blob version) c b v e = absurd (let no : ⊥ = cc in no)
-the_finish w (Moves.Read blob version offset count) c b v e = absurd (let no : ⊥ = cc in no)
+the_finish w step c b v e = absurd (let no : ⊥ = cc in no)
 
 -- ---- the finish of an update that stores a page anew
 first_of : (l : List ℕ) → l ≢ [] → (x : ℕ) × Contains l x
@@ -108,8 +98,7 @@ finish_follows c p w caller blob version b pos s follow there ok folds =
     let (x, own, row) = ok.1 in
     let same : x ≡ b = one_value (blob_at w.store blob) x b own.there there in
     let xs : List Extent = extents x.updates in
-    let F : Blob → Type 0 = λ y. folds_of p (extents y.updates) version ≢ [] in
-    let (page, one) = first_of (folds_of p xs version) (subst F (sym same) folds) in
+    let (page, one) = first_of (folds_of p xs version) (rw same folds) in
     let bounds : InBounds xs = in_bounds c x.updates (s.blobs blob x own.there).replay in
     let long : version ≤ length xs = omega (arith, own.upto, length-extents x.updates) in
     let met = ((folds_are p version xs pos bounds own.some long).0 page).0 one in
@@ -129,13 +118,11 @@ steps_in_order c hold p limits steps page allowed before later by blob version s
     let x : StepOf p empty before (Events.Finish by blob version) = step_of p empty steps before later (Events.Finish by blob version) allowed split in
     let u : World = world_after p empty x.done in
     let store : u.store ≡ store_of limits before = (hold p limits x.done pos x.allowed).store ∙ ap (λ (l : List Event). store_of limits l) x.changes in
-    let A : Step → Type 0 = λ step. IsAllowed p u step in
-    let ok : IsAllowed p u (Moves.Finish by blob version) = subst A (the_finish u x.step by blob version x.is) x.may in
+    let ok : IsAllowed p u (Moves.Finish by blob version) = rw (the_finish u x.step by blob version x.is) at x.may in
     let b : Blob = ok.1.0 in
     let is : blob_at u.store blob ≡ Some b = ok.1.1.there in
     let there : blob_at (store_of limits before) blob ≡ Some b = ap (λ (s : Store). blob_at s blob) (sym store) ∙ is in
-    let F : List Update → Type 0 = λ us. folds_of p (extents us) version ≢ [] in
     let last : version - 1 ≤ published b =
     finish_follows c p u by blob version b pos (stands_after c p empty x.done pos (empty_stands p limits) x.allowed) (steps_follow p limits x.done x.allowed) is ok
-    (subst F (ap updates_or_none there) folds) in
+    (rw (ap updates_or_none there) at folds) in
     omega (arith, last, ap published_or_none there)

@@ -68,10 +68,7 @@ owns_more : (s : Store) (x : Blob) (parents : List (Option Parent)) (next : Opti
 owns_more s x parents next o new = record {
   count = omega (arith, o.count, length-append s.blobs (x ∷ []));
   own = λ blob version b is e. elim (more_was s x blob b is) [
-    | inl here ↦
-        (let U : Blob → Type 0 = λ y. is_finished y version ≡ false in
-        let P : ℕ → Type 0 = λ n. origin_of (next ∷ parents) n version ≡ n in
-        subst P (sym here.0) (new version (subst U (sym here.1) e)))
+    | inl here ↦ rw here.0 (new version (rw here.1 e))
     | inr old ↦ origin_older next parents blob version (omega (arith, o.count, (blob_some s blob b old).1)) ∙ o.own blob version b old e
   ];
 }
@@ -81,33 +78,26 @@ owns_with : (s : Store) (at : ℕ) (before x : Blob) (parents : List (Option Par
 owns_with s at before x parents there o was = record {
   count = o.count ∙ sym (length-set s.blobs (at - 1) x);
   own = λ blob version b is e. elim (with_was s at before x there blob b is) [
-    | inl here ↦
-        (let U : Blob → Type 0 = λ y. is_finished y version ≡ false in
-        let P : ℕ → Type 0 = λ n. origin_of parents n version ≡ n in
-        subst P (sym here.0) (o.own at version before there (was version (subst U (sym here.1) e))))
+    | inl here ↦ rw here.0 (o.own at version before there (was version (rw here.1 e)))
     | inr old ↦ o.own blob version b old e
   ];
 }
 
 owns_next : (s : Store) (parents : List (Option Parent)) (e : Event) → Owns s parents → IsAccepted s e → Owns (answer s (caller_of e) (call_of e)).0 (parents_after parents e)
 owns_next s parents (Events.Create caller) o ok =
-    let S : Store → Type 0 = λ t. Owns t (None ∷ parents) in
-    subst S (sym (create_done s caller ok.accepted))
+    subst (λ (t : Store). Owns t (None ∷ parents)) (sym (create_done s caller ok.accepted))
     (owns_more s (record { updates = []; finished = [] }) parents None o (λ version e. origin_past parents (suc (length s.blobs)) version (omega (arith, o.count))))
 owns_next s parents (Events.Assign caller blob place bytes) o ok =
     let (b, is, fits, done) = assign_done s caller blob place bytes ok.accepted in
     let u : Update = record { caller = caller; place = place; bytes = bytes } in
-    let S : Store → Type 0 = λ t. Owns t parents in
-    subst S (sym done) (owns_with s blob b (and_update b u) parents is o (λ version e. more_unfinished b u version e))
+    subst (λ (t : Store). Owns t parents) (sym done) (owns_with s blob b (and_update b u) parents is o (λ version e. more_unfinished b u version e))
 owns_next s parents (Events.Finish caller blob version) o ok =
     let (b, is, done) = finish_done s caller blob version ok.accepted in
-    let S : Store → Type 0 = λ t. Owns t parents in
-    subst S (sym done) (owns_with s blob b (finish b version) parents is o (λ v e. set_unfinished b version v e))
+    subst (λ (t : Store). Owns t parents) (sym done) (owns_with s blob b (finish b version) parents is o (λ v e. set_unfinished b version v e))
 owns_next s parents (Events.Branch caller blob version) o ok =
     let (b, is, le, done) = branch_done s caller blob version ok.accepted in
     let q : Parent = record { blob = blob; version = version } in
-    let S : Store → Type 0 = λ t. Owns t (Some q ∷ parents) in
-    subst S (sym done)
+    subst (λ (t : Store). Owns t (Some q ∷ parents)) (sym done)
     (owns_more s (branch_of b version) parents (Some q) o
     (λ v e. origin_own q parents (suc (length s.blobs)) v (omega (arith, o.count)) (branch_unfinished b version v e)))
 

@@ -71,9 +71,8 @@ reading agree f before now w caller blob version offset count s a opened fits =
     let st : Store = store_of f.limits (events before) in
     let o : IsOpen st blob version (size_now s) = opened_by st blob version (size_now s) (blob_at st blob) refl opened.done in
     let le : offset + count ≤ size_of o.b.updates version = omega (arith, fits, o.size) in
-    let R : Store → Type 0 = λ x. is_refused (answer x 0 (Calls.Read blob version offset count)).1 ≡ false in
     let ok : IsAllowed f.page_size w (Moves.Read blob version offset count) =
-    subst R (sym (agree f before w a)) (ap is_refused (read_taken st blob version offset count o.b o.there o.published (within (size_of o.b.updates version) (offset + count) le))) in
+    rw (agree f before w a) (ap is_refused (read_taken st blob version offset count o.b o.there o.published (within (size_of o.b.updates version) (offset + count) le))) in
     subst (λ (h : List (ℕ × Event)). IsStep f w (Moves.Read blob version offset count) h) (sym opened.same) (quiet_step f before w (Moves.Read blob version offset count) a ok refl)
 
 same_content : (a b : List ℕ) → Outcomes.Content a ≡ Outcomes.Content b → a ≡ b

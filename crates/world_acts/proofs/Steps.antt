@@ -1,5 +1,5 @@
 -- One step more, in a world of a history.
-use Rattle.std.proofs.Common.{◌≡◌, ℕ, List, [], ◌∷◌, ◌++◌, refl, sym, ap, subst, ◌∙◌, arith, append_assoc, append-nil}
+use Rattle.std.proofs.Common.{◌≡◌, ℕ, List, [], ◌∷◌, ◌++◌, refl, sym, ap, ◌∙◌, arith, append_assoc, append-nil}
 use Rattle.blob_model.specs.History.{store_of}
 use Rattle.blob_model.specs.declared.call.Event.{Event}
 use Rattle.tree_geom.proofs.Spans.{page_pos}
@@ -32,14 +32,8 @@ events_append p w (x ∷ xs) ys =
 -- the lineage is that of the events
 pub lineage_after : (p : ℕ) (w : World) (steps : List Step) → (world_after p w steps).lineage ≡ parents_from w.lineage (events_from p w steps)
 lineage_after p w [] = refl
-lineage_after p w (Moves.PagePut page bytes ∷ steps) = lineage_after p (after p w (Moves.PagePut page bytes)) steps
-lineage_after p w (Moves.Create caller ∷ steps) = lineage_after p (after p w (Moves.Create caller)) steps
-lineage_after p w (Moves.Assign caller blob place pages ∷ steps) = lineage_after p (after p w (Moves.Assign caller blob place pages)) steps
-lineage_after p w (Moves.FoldPut blob version page ∷ steps) = lineage_after p (after p w (Moves.FoldPut blob version page)) steps
-lineage_after p w (Moves.NodePut key ∷ steps) = lineage_after p (after p w (Moves.NodePut key)) steps
-lineage_after p w (Moves.Finish caller blob version ∷ steps) = lineage_after p (after p w (Moves.Finish caller blob version)) steps
-lineage_after p w (Moves.Branch caller blob version ∷ steps) = lineage_after p (after p w (Moves.Branch caller blob version)) steps
 lineage_after p w (Moves.Read blob version offset count ∷ steps) = lineage_after p w steps
+lineage_after p w (step ∷ steps) = lineage_after p (after p w step) steps
 
 -- ---- one step more
 pub one_step : (f : DeskFixed) (before now : List (ℕ × Event)) (w : World) (step : Step) → IsWorldOf f before w → IsAllowed f.page_size w step → IsLog f now
@@ -47,7 +41,6 @@ pub one_step : (f : DeskFixed) (before now : List (ℕ × Event)) (w : World) (s
 one_step f before now w step a ok log added =
     let p : ℕ = f.page_size in
     let e : World = empty_world f.limits in
-    let A : World → Type 0 = λ x. IsAllowed p x step in
     record {
       allowed = ok;
       leads = record {
@@ -55,7 +48,7 @@ one_step f before now w step a ok log added =
         page_size = a.page_size;
         log = log;
         steps = a.steps ++ step ∷ [];
-        allowed = allowed_append p e a.steps (step ∷ []) a.allowed (subst A a.is ok, tt);
+        allowed = allowed_append p e a.steps (step ∷ []) a.allowed (rw a.is at ok, tt);
         is = ap (λ (x : World). after p x step) a.is ∙ sym (world_append p e a.steps (step ∷ []));
         changes =
             events_append p e a.steps (step ∷ [])

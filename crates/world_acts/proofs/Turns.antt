@@ -32,9 +32,7 @@ events_more before e = map-append (λ (x : ℕ × Event). x.1) before (tag e ∷
 pub accepted : (agree : StoresAgree) (f : DeskFixed) (before now : List (ℕ × Event)) (w : World) (e : Event) → IsWorldOf f before w → IsLog f now → now ≡ before ++ tag e ∷ [] → IsAccepted w.store e
 accepted agree f before now w e a log added =
     let more : events now ≡ events before ++ e ∷ [] = ap events added ∙ events_more before e in
-    let L : List Event → Type 0 = λ l. IsLegalFrom (record { limits = f.limits; blobs = [] }) l in
-    let S : Store → Type 0 = λ s. IsAccepted s e in
-    subst S (sym (agree f before w a)) (last_accepted (record { limits = f.limits; blobs = [] }) (events before) e (subst L more log.legal))
+    rw (agree f before w a) (last_accepted (record { limits = f.limits; blobs = [] }) (events before) e (rw more at log.legal))
 
 -- a turn whose event the step is, and which is allowed where the store takes the event
 pub turn : {A E : Type 0} (agree : StoresAgree) (f : DeskFixed) (before now : List (ℕ × Event)) (w : World) (caller : ℕ) (call : Call) (event : Event) (tells : A → Outcome) (fault : E → DeskFault)
@@ -46,8 +44,7 @@ turn agree f before now w caller call event tells fault (Ok x) step a c is may =
   none = tt;
 }
 turn agree f before now w caller call event tells fault (Err x) step a c is may =
-    let P : List (ℕ × Event) → Type 0 = λ h. IsWorldOf f h w in
-    record { done = tt; none = subst P (sym c.same) a }
+    record { done = tt; none = rw c.same a }
 
 pub creating : StoresAgree → CreatesAreSteps
 creating agree f before now w caller said a c = turn agree f before now w caller _ (Events.Create caller) _ _ said (Moves.Create caller) a c refl (λ x. x.accepted)

@@ -143,8 +143,7 @@ node_putting agree hold reached f history w t planned r n a ticket own nodes fol
     ∙ ap (λ (q : ℕ). folds_of q (extents (take v us)) v) ticket.page_size
     ∙ folds_up_to p us v ticket.numbered
     ∙ ap (λ (l : List Update). folds_of p (extents l) v) tb.updates in
-    let C : List (Range × Node) → Type 0 = λ l. Contains l (r, n) in
-    let inside : Contains (row_of p (extents b.updates) v) (r, n) = subst C row among in
+    let inside : Contains (row_of p (extents b.updates) v) (r, n) = rw row at among in
     let (q, key_there, pair) = unmap (λ (x : Range). (x, node_of p (extents b.updates) v x)) (row_keys_of p (log_of p b.updates) v) inside.0 (r, n) inside.1 inside.2 in
     let same : q ≡ r = ap (λ (x : Range × Node). x.0) pair in
     let is : n ≡ node_of p (extents b.updates) v r = sym (ap (λ (x : Range × Node). x.1) pair) ∙ ap (λ (x : Range). node_of p (extents b.updates) v x) same in
