@@ -1,5 +1,5 @@
 -- The leaf that has a byte, and the stored page in which it has it.
-use Rattle.std.proofs.Common.{◌≡◌, ◌⊎◌, ℕ, ◌+◌, ◌*◌, ◌/◌, ◌<◌, ◌≤◌, length, arith, ap, sym, ◌∙◌, inl, inr, true, false}
+use Rattle.std.proofs.Common.{◌≡◌, ◌⊎◌, ℕ, ◌+◌, ◌*◌, ◌/◌, ◌<◌, ◌≤◌, List, length, arith, ap, sym, ◌∙◌, inl, inr, true, false}
 use Rattle.std.specs.Prelude.{nat_lt}
 use Rattle.std.proofs.lemmas.Bool.{cases_lt}
 use Rattle.std.proofs.lemmas.Bool.Decides.{nat_tests}
@@ -13,9 +13,11 @@ use Rattle.tree_geom.proofs.Spans.{page_pos}
 use Rattle.node_store.specs.declared.parts.LeafParts.{LeafParts}
 use Rattle.range_reader.specs.Reading.{falls, newest_in, page_in, own_start, own_len, IsLeafOf}
 use Rattle.node_store.specs.Parts.{piece_with}
+use Rattle.range_reader.specs.Filling.{AreAlike, IsMetBy}
 use Rattle.range_reader.specs.Holders.{HasByte}
 use Rattle.range_reader.proofs.Going.{newest_length}
 use Rattle.range_reader.proofs.Leaves.{LeafOf}
+use Rattle.range_reader.proofs.Narrowing.{alike_after}
 use Rattle.range_reader.proofs.Taking.{lens, first_is, second_is}
 use Rattle.range_reader.proofs.Walking.{div_is, page_of_range}
 
@@ -63,13 +65,29 @@ next_leaf holes lead stand s is j i b has leaf valid lacks =
     let back = (holes p j i (falls s) pos bounds has rest.0.0).1 rest.0.1 in
     record { some = back.0; less = back.1; stands = lead p j i (falls s) pos bounds has back.0; valid = rest.2 }
 
+-- ---- past a leaf that has none of a gap's bytes
+pub record Passed (s : Version) (j i low high : ℕ) : Type 0 where
+  pub lacks : (b : ℕ) → low ≤ b → b < high → ¬ HasByte s j i b
+  pub next : NextLeaf s j i low
+  pub alike : (page : List ℕ) → AreAlike page (page_in s j i) low high → AreAlike page (page_in s (back_of s.page_size (falls s) j i) i) low high
+
+pub passed : BacksHaveNoHoles → BacksLead → ExtentsStand → (s : Version) → IsVersion s → (j i low high : ℕ) (parts : LeafParts) → IsLeafOf s j i parts → HasNodeFor s j (page_range s.page_size i)
+    → LeafOf s j i → low < high → high ≤ length (page_in s j i) → ¬ IsMetBy low high parts → Passed s j i low high
+passed holes lead stand s is j i low high parts of has leaf some valid apart =
+    let lacks : (b : ℕ) → low ≤ b → b < high → ¬ HasByte s j i b =
+    λ b from to own. apart (omega (arith, from, own.1, of.start, lens s j i parts of), omega (arith, to, own.0, of.start)) in
+    record {
+      lacks = lacks;
+      next = next_leaf holes lead stand s is j i low has leaf (omega (arith, some, valid)) (lacks low (omega arith) some);
+      alike = λ page alike.
+          alike_after page (page_in s j i) 0 low high low high alike (omega arith) (omega arith) (page_in s (back_of s.page_size (falls s) j i) i) some
+          (λ b from to within. let rest = leaf.tells.rest b (beside s j i b (lacks b from to)) within in (rest.1, rest.2));
+    }
+
 -- ---- a leaf by its parts
 module _ (s : Version) (j i b : ℕ) (parts : LeafParts) (is : IsLeafOf s j i parts) where
-  pub byte_in : (parts.start ≤ b) × (b + 1 ≤ parts.start + parts.first.len + parts.second.len) → HasByte s j i b
-  byte_in within = (omega (arith, within.0, is.start), omega (arith, within.1, is.start, lens s j i parts is))
-
-  pub byte_out : ((parts.start ≤ b) × (b + 1 ≤ parts.start + parts.first.len + parts.second.len) → ⊥) → ¬ HasByte s j i b
-  byte_out out = λ has. out (omega (arith, has.0, is.start), omega (arith, has.1, is.start, lens s j i parts is))
+  pub byte_in : IsMetBy b (b + 1) parts → HasByte s j i b
+  byte_in met = (omega (arith, met.1, is.start), omega (arith, met.0, is.start, lens s j i parts is))
 
   -- the stored page of the piece with the byte is there
   pub piece_stands : LeafOf s j i → HasByte s j i b → (piece_with parts.start parts.first parts.second b).page < length (stored_of (row_at s.rows j))

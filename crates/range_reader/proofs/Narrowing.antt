@@ -1,21 +1,16 @@
 -- A page of the buffer that is filled from its ends.
-use Rattle.std.proofs.Common.{◌≡◌, ℕ, ◌+◌, ◌-◌, ◌<◌, ◌≤◌, List, length, take, drop, arith, refl, ap, sym, ◌∙◌, inl, inr, get_or}
+use Rattle.std.proofs.Common.{◌≡◌, ℕ, ◌+◌, ◌-◌, ◌<◌, ◌≤◌, List, length, take, drop, arith, ap, sym, ◌∙◌, inl, inr, get_or}
 use Rattle.std.specs.Prelude.{slice_range}
 use Rattle.std.proofs.lemmas.Bool.{cases_lt}
 use borrow.Rule.Slice.PartMut.{put_mid}
-use Rattle.range_reader.specs.Filling.{Narrowed}
+use Rattle.range_reader.specs.Filling.{AreAlike, Narrowed}
 use Rattle.range_reader.proofs.Parts.{part_read, length_part, length_put, put_below, put_within, put_above}
-use Rattle.range_reader.proofs.Taking.{read_all}
+use Rattle.range_reader.proofs.Taking.{read_all, slice_in}
 
 -- a buffer has all bytes of a page from byte `begin` on but those from byte `low` on, up to byte `high`
 pub record AllBut (page : List ℕ) (begin low high : ℕ) (out : List ℕ) : Type 0 where
   pub below : (x : ℕ) → x < length out → begin + x < low → get_or out x 0 ≡ get_or page (begin + x) 0
   pub above : (x : ℕ) → x < length out → high ≤ begin + x → get_or out x 0 ≡ get_or page (begin + x) 0
-
--- bytes `low` up to `high` of a page are the same in an older form of it
-pub record AreAlike (page older : List ℕ) (low high : ℕ) : Type 0 where
-  pub same : (b : ℕ) → low ≤ b → b < high → get_or page b 0 ≡ get_or older b 0
-  pub valid : high ≤ length older
 
 -- ---- a part of the buffer
 -- where the part `from` up to `to` of the page ends
@@ -69,15 +64,6 @@ module _ (page : List ℕ) (begin from to : ℕ) (out sub : List ℕ) (low : beg
     above = λ x lt more. put_after x (omega (arith, e));
   }
 
--- nothing was put into it
-pub narrowed_none : (page : List ℕ) (begin low high : ℕ) (out : List ℕ) → Narrowed page begin low high low high out out
-narrowed_none page begin low high out = record {
-  front = λ x lt start end. absurd (omega arith);
-  end = λ x lt start end. absurd (omega arith);
-  below = λ x lt less. refl;
-  above = λ x lt more. refl;
-}
-
 -- ---- along the backs
 module _ (page here : List ℕ) (begin low high low' high' : ℕ) (alike : AreAlike page here low high) (down : low ≤ low') (up : high' ≤ high) where
   -- after a leaf's bytes are filled in at an end
@@ -100,6 +86,15 @@ module _ (page here : List ℕ) (begin low high low' high' : ℕ) (alike : AreAl
     same = λ b from to. alike.same b (omega arith) (omega arith) ∙ (rest b from to (omega (arith, alike.valid))).0;
     valid = let last : high' - 1 < length older = (rest (high' - 1) (omega arith) (omega arith) (omega (arith, alike.valid))).1 in omega (arith, last);
   }
+
+-- ---- from one form of a page to an older one
+pub alike_further : (page older oldest : List ℕ) (low high : ℕ) → AreAlike page older low high → AreAlike older oldest low high → AreAlike page oldest low high
+alike_further page older oldest low high a b = record { same = λ x from to. a.same x from to ∙ b.same x from to; valid = b.valid }
+
+-- n bytes that are the same
+pub alike_slice : (page older : List ℕ) (low n : ℕ) → low + n ≤ length page → AreAlike page older low (low + n) → slice_range older low (low + n) ≡ slice_range page low (low + n)
+alike_slice page older low n fits alike =
+    slice_in older page low low n alike.valid fits (λ y lt. sym (alike.same (low + y) (omega arith) (omega (arith, lt))))
 
 -- where nothing is left, the bytes are the page's
 pub all_but_none : (page : List ℕ) (begin low high n : ℕ) (out : List ℕ) → length out ≡ n → begin + n ≤ length page → high ≤ low → AllBut page begin low high out

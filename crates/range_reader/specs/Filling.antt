@@ -1,5 +1,6 @@
 -- A buffer for bytes of a page, and marks of those that are still wanted.
 use Rattle.std.specs.Prelude.{◌≡◌, ◌≢◌, ℕ, ◌+◌, ◌-◌, ◌<◌, ◌≤◌, Bool, true, false, List, length, slice_index, slice_index_or}
+use Rattle.node_store.specs.declared.parts.LeafParts.{LeafParts}
 use Rattle.snapshot.specs.Versions.{Version}
 use Rattle.range_reader.specs.declared.source.LeafAt.{LeafAt}
 use Rattle.range_reader.specs.Reading.{page_in, own_start, own_len}
@@ -40,6 +41,15 @@ pub record IsNextWanted (marks : List Bool) (first next : ℕ) : Type 0 where
   pub upto : next ≤ length marks
   pub none : (x : ℕ) → first ≤ x → x < next → slice_index_or marks x false ≢ true
   pub wanted : next < length marks → slice_index_or marks next false ≡ true
+
+-- a leaf of these parts has some of the page's bytes from byte `low` on, up to byte `high`
+abbrev pub IsMetBy : ℕ → ℕ → LeafParts → Type 0
+IsMetBy low high parts = (low < parts.start + (parts.first.len + parts.second.len)) × (parts.start < high)
+
+-- bytes `low` up to `high` of a page are the same in an older form of it
+pub record AreAlike (page older : List ℕ) (low high : ℕ) : Type 0 where
+  pub same : (b : ℕ) → low ≤ b → b < high → slice_index page b ≡ slice_index older b
+  pub valid : high ≤ length older
 
 -- The buffer has the page's bytes from byte `begin` on. Of those from the page's byte `low` on, up to byte `high`, it now has all but those from
 -- byte `low'` on, up to byte `high'`, and all others are as they were.

@@ -9,7 +9,7 @@ ghost use Rattle.range_reader.specs.Reading.{falls, newest_in, bound, IsLeafOf};
 ghost use Rattle.range_reader.specs.Holders.{HasByte, IsReached, IsHolder};
 
 use crate::descent::newest_of_page;
-use crate::source::leaf;
+use crate::gap::{Gap, first_with};
 use node_store::{LeafParts, NodeHouse};
 use page_store::StoredPage;
 use snapshot::{Snapshot, View};
@@ -51,14 +51,14 @@ pub fn holder<'s, L: Ledger>(
     let view = snapshot.view();
     let levels = height(page_size, size);
     let newest = newest_of_page(&view, nodes, levels, page, steps);
-    let (first, parts) = first_with(&view, nodes, newest, page, byte, steps);
+    let (first, parts) = first_with_byte(&view, nodes, newest, page, byte, steps);
     let piece = parts.piece_with(byte);
     Some(snapshot.page(first, piece.page))
 }
 
 // The first leaf that has this byte of the page, from its newest leaf along the backs, and that leaf's version. `newest` is the
 // version of the newest leaf.
-fn first_with<L: Ledger>(
+fn first_with_byte<L: Ledger>(
     snapshot: &View,
     nodes: &NodeHouse,
     newest: u64,
@@ -77,19 +77,13 @@ fn first_with<L: Ledger>(
     ensures has { HasByte snapshot.now result.0 page byte }
     ensures steps { let s = snapshot.now in steps.new ≤ steps.old + 1 + backs_of s.page_size (falls s) (length s.rows) page }
 {
-    range_log::laws::leaves_fill();
-    range_log::laws::folds_are();
     range_log::laws::page_bytes_stay();
-    range_log::laws::links_name_nodes();
-    range_log::laws::no_holes();
     range_log::laws::newest_is_greatest();
     range_log::laws::backs_step();
     snapshot.stands();
-    let mut at = newest;
-    let mut parts = leaf(snapshot, nodes, at, page, steps);
-    while !parts.has_all(byte, 1) {
-        at = parts.back;
-        parts = leaf(snapshot, nodes, at, page, steps);
-    }
-    (at, parts)
+    let gap = Gap {
+        low: byte,
+        high: byte + 1,
+    };
+    first_with(snapshot, nodes, newest, page, gap, steps)
 }

@@ -4,11 +4,11 @@ ghost use Rattle.tree_geom.specs.Geometry.{page_range};
 ghost use Rattle.range_log.specs.Visits.{backs_of};
 ghost use Rattle.page_store.specs.Count.{HasRisen};
 ghost use Rattle.snapshot.specs.Versions.{size_now, HasNodeFor, IsVersionIn};
-ghost use Rattle.range_reader.specs.Filling.{OverlaidBy, TakenBy, IsNextWanted};
+ghost use Rattle.range_reader.specs.Filling.{IsMetBy, OverlaidBy, TakenBy, IsNextWanted};
 ghost use Rattle.range_reader.specs.Reading.{falls, newest_in, bytes_at, page_in, IsLeafOf};
 ghost use Rattle.range_reader.specs.Faults.{CountsKept, IsLedTo, PieceFailed, PageFailed};
 
-use crate::gap::{Gap, fill_end};
+use crate::gap::{Gap, fill_end, first_with};
 use crate::marks::{first_marked, mark_all};
 use crate::piece::fill_piece;
 use crate::source::{LeafAt, ReadSource, leaf};
@@ -176,8 +176,8 @@ fn fill_along<D: Door, L: Ledger>(
     }
 }
 
-// Does what `fill_along` does, without marks as long as what is still wanted lies side by side: each leaf has an end of it, or
-// nothing of it. Where a leaf has bytes between its ends, the rest is filled as the marks say.
+// Does what `fill_along` does, without marks as long as what is still wanted lies side by side: each leaf that has some of it has an end
+// of it, as the leaf at hand does. Where a leaf has bytes between its ends, the rest is filled as the marks say.
 fn fill_ends<D: Door, L: Ledger>(
     source: &ReadSource,
     doors: &mut Doors<D>,
@@ -196,6 +196,7 @@ fn fill_ends<D: Door, L: Ledger>(
     requires within { begin + length out.old ≤ source.now.view.now.page_size }
     requires valid { begin + length out.old ≤ length (page_in source.now.view.now head.version head.page) }
     requires some { 1 ≤ length out.old }
+    requires met { IsMetBy begin (begin + length out.old) head.parts }
     requires marked { length marks.old ≡ length out.old }
     ensures bytes { All D.is_true doors.old → IsTrue result
         → out.new ≡ slice_range (page_in source.now.view.now head.version head.page) begin (begin + length out.old) }
@@ -239,12 +240,13 @@ fn fill_ends<D: Door, L: Ledger>(
             return true;
         }
         gap = left;
-        version = parts.back;
-        parts = leaf(source.view, source.nodes, version, page, steps);
+        let (older, found) = first_with(source.view, source.nodes, parts.back, page, gap, steps);
+        version = older;
+        parts = found;
     }
 }
 
-// Fills `out` with bytes of the page from its byte `begin` on: from the newest leaf of the page, and along the backs for
+// Fills `out` with bytes of the page from its byte `begin` on: from the first leaf that has some of them, and along the backs for
 // the bytes that it lacks. A byte that a newer leaf has is never written again, and marks are made only where a leaf has bytes
 // between others that are still wanted. False where all doors of one stored page failed. `newest` is the version of the newest leaf.
 pub(crate) fn fill_page<D: Door, L: Ledger>(
@@ -281,9 +283,13 @@ pub(crate) fn fill_page<D: Door, L: Ledger>(
     range_log::laws::newest_is_greatest();
     range_log::laws::backs_step();
     source.view.stands();
-    let parts = leaf(source.view, source.nodes, newest, page, steps);
+    let whole = Gap {
+        low: begin,
+        high: begin + out.len(),
+    };
+    let (version, parts) = first_with(source.view, source.nodes, newest, page, whole, steps);
     let head = LeafAt {
-        version: newest,
+        version,
         page,
         parts,
     };

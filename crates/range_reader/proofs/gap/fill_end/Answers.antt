@@ -1,32 +1,16 @@
-use Rattle.std.proofs.Common.{◌≡◌, ℕ, ◌+◌, ◌<◌, ◌≤◌, arith, refl, inl, inr, true, false}
+use Rattle.std.proofs.Common.{ℕ, ◌+◌, ◌<◌, ◌≤◌, arith, refl, inl, inr}
 use Rattle.std.proofs.lemmas.Bool.{cases_lt}
 use Rattle.range_reader.specs.Reading.{page_in}
-use Rattle.range_reader.proofs.Counting.{kept_yet}
 use Rattle.range_reader.proofs.Taking.{lens}
-use Rattle.range_reader.proofs.Narrowing.{part_ends, narrowed_front, narrowed_end, narrowed_none}
+use Rattle.range_reader.proofs.Narrowing.{part_ends, narrowed_front, narrowed_end}
 use Rattle.range_reader.proofs.gap.fill_end.Goals as goal
-
-pub returns-then-not-meets-clause-lacks : goal.returns-then-not-meets-clause-lacks
-returns-then-not-meets-clause-lacks g c = λ b from to has.
-    let parts = c.requires.leaf in
-    let len = lens c.args.source.now.view.now c.args.leaf.version c.args.leaf.page c.args.leaf.parts parts in
-    let met : c.meets.result ≡ true = c.meets.ensures.1 (omega (arith, from, has.1, parts.start, len), omega (arith, to, has.0, parts.start, c.requires.some)) in
-    let no : c.meets.result ≡ false = c.if-not-meets.true in
-    cc
-
-pub returns-then-not-meets-clause-narrowed : goal.returns-then-not-meets-clause-narrowed
-returns-then-not-meets-clause-narrowed g c = λ all.
-    narrowed_none (page_in c.args.source.now.view.now c.args.leaf.version c.args.leaf.page) c.args.begin c.args.gap.low c.args.gap.high c.args.out.now
-
-pub returns-then-not-meets-clause-kept : goal.returns-then-not-meets-clause-kept
-returns-then-not-meets-clause-kept g c = kept_yet _ _
 
 pub take_leaf-requires-clause-low : goal.take_leaf-requires-clause-low
 take_leaf-requires-clause-low g c = omega (arith, c.max-from.ensures)
 
 pub take_leaf-requires-clause-high : goal.take_leaf-requires-clause-high
 take_leaf-requires-clause-high g c =
-    let met = c.meets.ensures.0 c.if-not-meets.false in
+    let met = c.requires.met in
     let ends = part_ends c.args.begin c.max-from.result c.min-to.result c.args.out.now (omega (arith, c.max-from.ensures, c.requires.low))
     (omega (arith, c.max-from.ensures, c.min-to.ensures, c.end.ensures, met.0, met.1, c.requires.some)) (omega (arith, c.min-to.ensures, c.requires.high)) in
     omega (arith, ends, c.min-to.ensures, c.end.ensures)
@@ -39,7 +23,7 @@ returns-then-from-gap-clause-lacks g c = λ b from to has.
 
 pub returns-then-from-gap-clause-narrowed : goal.returns-then-from-gap-clause-narrowed
 returns-then-from-gap-clause-narrowed g c = λ all.
-    let met = c.meets.ensures.0 c.if-not-meets.false in
+    let met = c.requires.met in
     narrowed_front (page_in c.args.source.now.view.now c.args.leaf.version c.args.leaf.page) c.args.begin c.max-from.result c.min-to.result c.args.out.now c.take_leaf.new.out
     (omega (arith, c.max-from.ensures, c.requires.low))
     (omega (arith, c.max-from.ensures, c.min-to.ensures, c.end.ensures, met.0, met.1, c.requires.some))
@@ -56,7 +40,7 @@ returns-clause-lacks g c = λ b from to has. omega (arith, to, has.0, c.requires
 
 pub returns-clause-narrowed : goal.returns-clause-narrowed
 returns-clause-narrowed g c = λ all.
-    let met = c.meets.ensures.0 c.if-not-meets.false in
+    let met = c.requires.met in
     let later : c.args.gap.low < c.args.leaf.parts.start = omega (arith, c.max-from.ensures, c.if-from-gap.false) in
     let long =
     to_end c.args.gap.low c.args.gap.high c.args.leaf.parts.start (c.args.leaf.parts.start + (c.args.leaf.parts.first.len + c.args.leaf.parts.second.len))

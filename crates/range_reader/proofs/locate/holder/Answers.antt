@@ -32,25 +32,25 @@ newest_of_page-newest-requires-clause-valid g c =
 pub page-requires-clause-version : goal.page-requires-clause-version
 page-requires-clause-version g c =
     let s = c.args.snapshot.now in
-    in_rows s c.first_with-first.result.0 (page_range s.page_size (c.args.at / c.bytes-bytes.result)) (rw (c.view-view.ensures) at c.first_with-first.ensures.stands)
+    in_rows s c.first_with_byte-first.result.0 (page_range s.page_size (c.args.at / c.bytes-bytes.result)) (rw (c.view-view.ensures) at c.first_with_byte-first.ensures.stands)
 
 pub page-requires-clause-number : goal.page-requires-clause-number
 page-requires-clause-number g c =
     let s = c.args.snapshot.now in
     let i = c.args.at / c.bytes-bytes.result in
-    let j = c.first_with-first.result.0 in
+    let j = c.first_with_byte-first.result.0 in
     let is = c.stands.ensures in
-    let first = rw (c.view-view.ensures) at c.first_with-first.ensures in
+    let first = rw (c.view-view.ensures) at c.first_with_byte-first.ensures in
     let fill = c.leaves_fill.ensures in
     let leaf = leaf_of_version fill.fill fill.fit fill.pieces c.folds_are.ensures.folds c.page_bytes_stay.ensures.bytes c.page_bytes_stay.ensures.extents s is j i first.stands in
-    let number = piece_stands s j i (c.args.at % c.bytes-bytes.result) c.first_with-first.result.1 first.leaf leaf first.has in
+    let number = piece_stands s j i (c.args.at % c.bytes-bytes.result) c.first_with_byte-first.result.1 first.leaf leaf first.has in
     omega (arith, number, ap (λ (x : Piece). x.page) c.piece_with-piece.ensures)
 
 pub returns-clause-among : goal.returns-clause-among
 returns-clause-among g c = λ houses pages.
     let s = c.args.snapshot.now in
-    let rows = in_rows s c.first_with-first.result.0 (page_range s.page_size (c.args.at / c.bytes-bytes.result)) (rw (c.view-view.ensures) at c.first_with-first.ensures.stands) in
-    page_in houses s c.first_with-first.result.0 c.piece_with-piece.result.page c.page.result.now pages rows.0 rows.1 c.page.ensures.this
+    let rows = in_rows s c.first_with_byte-first.result.0 (page_range s.page_size (c.args.at / c.bytes-bytes.result)) (rw (c.view-view.ensures) at c.first_with_byte-first.ensures.stands) in
+    page_in houses s c.first_with_byte-first.result.0 c.piece_with-piece.result.page c.page.result.now pages rows.0 rows.1 c.page.ensures.this
 
 pub returns-clause-steps : goal.returns-clause-steps
 returns-clause-steps g c =
@@ -59,7 +59,7 @@ returns-clause-steps g c =
     let is = c.stands.ensures in
     let size = c.bytes-bytes.ensures.is ∙ c.page_size-page_size.ensures in
     let tall = c.height-levels.ensures.is ∙ ap (λ q. height_of q c.size-size.result) c.page_size-page_size.ensures ∙ ap (height_of p) c.size-size.ensures.size in
-    let along = rw (c.view-view.ensures) at c.first_with-first.ensures.steps in
+    let along = rw (c.view-view.ensures) at c.first_with_byte-first.ensures.steps in
     let backs = ap (λ n. backs_of p (falls s) (length s.rows) (c.args.at / n)) size in
     let within : c.args.at % p + 1 ≤ p = let lt : c.args.at % p < p = mod_below c.args.at p (page_pos p is.page_size) in omega arith in
     omega (arith, c.newest_of_page-newest.ensures.steps, tall, along, backs, page_bound c.page_bytes_stay.ensures.extents s is c.args.at 1 (omega arith) within)

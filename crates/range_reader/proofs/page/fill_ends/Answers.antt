@@ -1,4 +1,4 @@
-use Rattle.std.proofs.Common.{◌≡◌, ℕ, ◌-◌, ◌<◌, ◌≤◌, length, map, arith, refl, ap, sym, ◌∙◌, subst, true, false}
+use Rattle.std.proofs.Common.{◌≡◌, ℕ, ◌-◌, ◌≤◌, length, map, arith, refl, ap, sym, ◌∙◌, subst, true, false}
 use Rattle.tree_geom.specs.Geometry.{page_range}
 use Rattle.range_log.specs.Rows.{back_of}
 use Rattle.range_log.specs.Visits.{backs_of}
@@ -10,7 +10,8 @@ use Rattle.range_reader.proofs.Along.{backs_at}
 use Rattle.range_reader.proofs.Counting.{kept_yet, kept_twice, stored_since, risen_since, page_since}
 use Rattle.range_reader.proofs.Holding.{NextLeaf, next_leaf, beside}
 use Rattle.range_reader.proofs.Leaves.{LeafOf, leaf_of_version}
-use Rattle.range_reader.proofs.Narrowing.{AreAlike, part_ends, put_count, narrowed_front, but_after, alike_after, all_but_none}
+use Rattle.range_reader.specs.Filling.{AreAlike}
+use Rattle.range_reader.proofs.Narrowing.{part_ends, put_count, narrowed_front, but_after, alike_after, alike_further, all_but_none}
 use Rattle.range_reader.proofs.page.fill_ends.Given.{Over}
 use Rattle.range_reader.proofs.page.fill_ends.Goals.{Else-left}
 use Rattle.range_reader.proofs.page.fill_ends.Goals as goal
@@ -23,6 +24,7 @@ loop-parts-init g c = record {
   has = c.requires.has;
   led = c.requires.led;
   leaf = c.requires.leaf;
+  met = c.requires.met;
   ahead = omega arith;
   there = λ _. record { below = λ x lt less. absurd (omega arith); above = λ x lt more. absurd (omega arith) };
   alike = record { same = λ b from to. refl; valid = c.requires.valid };
@@ -157,15 +159,40 @@ onward g c =
     (omega (arith, inv.alike.valid, within.2, within.1, c.if-left.false, inv.some))
     (c.in-Some.ensures.lacks (left.high - 1) (omega (arith, within.1, c.if-left.false)) (omega (arith, within.1, c.if-left.false)))
 
-pub leaf-parts-requires-clause-has : goal.leaf-parts-requires-clause-has
-leaf-parts-requires-clause-has g c =
+-- what is left is the same in the page at the leaf's back
+rest : (g : Over) (c : Else-left g)
+    → AreAlike (page_in c.args.source.now.view.now c.args.head.version c.args.head.page) (page_in c.args.source.now.view.now c.loop-parts.parts.back c.args.head.page) c.in-Some.left.low c.in-Some.left.high
+rest g c =
     let s = c.args.source.now.view.now in
-    let rest = (goal.at.leaf-parts-requires-clause-has g c).Else-left in
+    let i = c.args.head.page in
+    let at = c.loop-parts.version in
+    let inv = c.loop-parts.invariant in
+    let gap = c.loop-parts.gap in
+    let left = c.in-Some.left in
+    let within = c.in-Some.ensures.left in
+    let page = page_in s c.args.head.version i in
+    let A : ℕ → Type 0 = λ j. AreAlike page (page_in s j i) left.low left.high in
+    subst A (sym inv.leaf.back)
+    (alike_after page (page_in s at i) c.args.begin gap.low gap.high left.low left.high inv.alike within.0 within.2 (page_in s (back_of s.page_size (falls s) at i) i) (omega (arith, within.1, c.if-left.false))
+    (λ b from upto valid.
+    let rest = (leaf g c).tells.rest b (beside s at i b (c.in-Some.ensures.lacks b from upto)) valid in
+    (rest.1, rest.2)))
+
+pub first_with-older-requires-clause-has : goal.first_with-older-requires-clause-has
+first_with-older-requires-clause-has g c =
+    let s = c.args.source.now.view.now in
+    let rest = (goal.at.first_with-older-requires-clause-has g c).Else-left in
     let N : ℕ → Type 0 = λ j. HasNodeFor s j (page_range s.page_size c.args.head.page) in
     subst N (sym c.loop-parts.invariant.leaf.back) (onward g rest).stands
 
+pub first_with-older-requires-clause-some : goal.first_with-older-requires-clause-some
+first_with-older-requires-clause-some g c = omega (arith, c.in-Some.ensures.left.1, c.if-left.false)
+
+pub first_with-older-requires-clause-valid : goal.first_with-older-requires-clause-valid
+first_with-older-requires-clause-valid g c = (rest g (goal.at.first_with-older-requires-clause-valid g c).Else-left).valid
+
 pub loop-parts-smaller : goal.loop-parts-smaller
-loop-parts-smaller g c = omega (arith, c.loop-parts.invariant.leaf.back, (onward g (goal.at.loop-parts-smaller g c).Else-left).less)
+loop-parts-smaller g c = omega (arith, c.loop-parts.invariant.leaf.back, (onward g (goal.at.loop-parts-smaller g c).Else-left).less, c.first_with-older.ensures.upto)
 
 pub loop-parts-preserved : goal.loop-parts-preserved
 loop-parts-preserved g c =
@@ -174,15 +201,11 @@ loop-parts-preserved g c =
     let xs = falls s in
     let i = c.args.head.page in
     let at = c.loop-parts.version in
-    let is = c.stands.ensures in
     let inv = c.loop-parts.invariant in
     let gap = c.loop-parts.gap in
     let left = c.in-Some.left in
     let within = c.in-Some.ensures.left in
-    let some : left.low < left.high = omega (arith, within.1, c.if-left.false) in
     let page = page_in s c.args.head.version i in
-    let here = page_in s at i in
-    let older = page_in s (back_of p xs at i) i in
     let out = c.loop-parts.out in
     let out' = c.fill_end.new.out in
     let count : length out' ≡ length out = c.fill_end.auto.out in
@@ -190,26 +213,21 @@ loop-parts-preserved g c =
     let place = (goal.at.loop-parts-preserved g c).Else-left in
     let to = onward g place in
     let backs = backs_at c.newest_is_greatest.ensures.greatest c.backs_step.ensures p at i xs inv.has in
-    let N : ℕ → Type 0 = λ j. HasNodeFor s j (page_range p i) in
     let L : ℕ → Type 0 = λ j. IsLedTo s i j in
-    let A : ℕ → Type 0 = λ j. AreAlike page (page_in s j i) left.low left.high in
-    let alike : AreAlike page older left.low left.high =
-    alike_after page here c.args.begin gap.low gap.high left.low left.high inv.alike within.0 within.2 older some
-    (λ b from upto valid.
-    let rest = (leaf g place).tells.rest b (beside s at i b (c.in-Some.ensures.lacks b from upto)) valid in
-    (rest.1, rest.2)) in
+    let next = c.first_with-older.ensures in
     record {
       low = omega (arith, inv.low, within.0);
-      some = some;
+      some = omega (arith, within.1, c.if-left.false);
       high = omega (arith, inv.high, within.2, count);
-      has = subst N (sym back) to.stands;
-      led = subst L (sym back) (Back at inv.led to.some);
-      leaf = c.leaf-parts.ensures.leaf;
-      ahead = omega (arith, inv.ahead, backs.1 to.some, ap (λ j. backs_of p xs j i) back, c.leaf-parts.ensures.step);
+      has = next.has;
+      led = next.led (subst L (sym back) (Back at inv.led to.some));
+      leaf = next.leaf;
+      met = next.met;
+      ahead = omega (arith, inv.ahead, backs.1 to.some, ap (λ j. backs_of p xs j i) back, next.steps);
       there = λ all.
-          but_after page here c.args.begin gap.low gap.high left.low left.high inv.alike within.0 within.2 out out' count within.1 (inv.there all)
+          but_after page (page_in s at i) c.args.begin gap.low gap.high left.low left.high inv.alike within.0 within.2 out out' count within.1 (inv.there all)
           (c.in-Some.ensures.narrowed (inv.truth all));
-      alike = subst A (sym back) alike;
+      alike = alike_further page (page_in s c.loop-parts.parts.back i) (page_in s c.first_with-older.result.0 i) left.low left.high (rest g place) next.alike;
       kept = kept_twice _ _ _ _ _ _ inv.kept c.fill_end.ensures.kept;
       count = c.fill_end.ensures.count ∙ inv.count;
       truth = λ all. c.fill_end.ensures.truth_stays (inv.truth all);

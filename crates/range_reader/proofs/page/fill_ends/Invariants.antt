@@ -5,7 +5,8 @@ use Rattle.range_log.specs.Visits.{backs_of}
 use Rattle.snapshot.specs.Versions.{HasNodeFor}
 use Rattle.range_reader.specs.Faults.{CountsKept, IsLedTo}
 use Rattle.range_reader.specs.Reading.{falls, page_in, IsLeafOf}
-use Rattle.range_reader.proofs.Narrowing.{AllBut, AreAlike}
+use Rattle.range_reader.specs.Filling.{AreAlike, IsMetBy}
+use Rattle.range_reader.proofs.Narrowing.{AllBut}
 use Rattle.range_reader.proofs.page.fill_ends.Given as goal
 
 -- all bytes but those of the gap are there, and these are in the page at the leaf of version `at`
@@ -22,6 +23,7 @@ invariant-loop-parts g l =
       has : HasNodeFor s l.version (page_range p l.fn.head.page);
       led : IsLedTo s l.fn.head.page l.version;
       leaf : IsLeafOf s l.version l.fn.head.page l.parts;
+      met : IsMetBy l.gap.low l.gap.high l.parts;
       ahead : l.steps + backs_of p (falls s) l.version l.fn.head.page ≤ l.fn.steps + backs_of p (falls s) l.fn.head.version l.fn.head.page;
       there : All g.D.Door.is_true l.fn.doors → AllBut page l.begin l.gap.low l.gap.high l.out;
       alike : AreAlike page (page_in s l.version l.fn.head.page) l.gap.low l.gap.high;
