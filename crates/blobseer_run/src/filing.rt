@@ -137,12 +137,7 @@ fn serve_named<R: Wait + Threads + Sync, S: Source, K: Sink, D: BesideDoor, G: G
         doors,
     };
     let (end, held) = serve_session(rt, alloc, shared, &names, gate, held, script, out);
-    let Held {
-        pass,
-        names: names_pass,
-        doors,
-    } = held;
-    owner.take_back(&names, names_pass);
+    owner.take_back(&names, held.names);
     let Ok(tree) = owner.close(names) else {
         // No pass is out.
         unreachable!()
@@ -150,7 +145,7 @@ fn serve_named<R: Wait + Threads + Sync, S: Source, K: Sink, D: BesideDoor, G: G
     let _entered = tree.history();
     // The process ends, and gives the memory of all names back at once.
     mem::forget(tree);
-    (end, pass, doors)
+    (end, held.pass, held.doors)
 }
 
 // Serves lines by the first session of a new store with new names, closes the store, and gives the doors back.

@@ -86,13 +86,6 @@ none_by store (Some b) blob version is e =
 pub may_be_finished : (store : Store) (blob version : ℕ) → repair_refusal store blob version ≡ None → IsThere store blob (λ b. (nat_lt (assigned b) version ≡ false) × (is_finished b version ≡ false))
 may_be_finished store blob version e = none_by store (blob_at store blob) blob version refl e
 
--- the store refuses it then
-pub finish_already : (store : Store) (caller blob version : ℕ) → IsThere store blob (λ b. is_finished b version ≡ true)
-    → (answer store caller (Calls.Finish blob version)).1 ≡ Outcomes.Refused (Refusals.Already version)
-finish_already store caller blob version t =
-    ap (λ (o : Option Blob). (finish_by store blob version o).1) t.is
-    ∙ ap (λ (x : Bool). (finish_test store x version (with_blob store blob (finish t.b version), Outcomes.Published (published (finish t.b version)))).1) t.holds
-
 unfinished_test : (store : Store) (x : Bool) (version : ℕ) (done : Answered) → is_refused (finish_test store x version done).1 ≡ false → x ≡ false
 unfinished_test store true version done e = let never : ⊥ = cc in absurd never
 unfinished_test store false version done e = refl

@@ -5,6 +5,6 @@ pub mod Maps
 pub mod Entering
 pub mod Listings
 pub mod Hearing
-mod LinesWorked
+mod Rows
 mod FieldLemmas
 mod NumberLemmas

@@ -240,7 +240,7 @@ impl Many {
     }
 
     /// The links of node `index`, counted from 0, or None where it is a leaf.
-    #[inline(never)]
+    #[inline(always)]
     pub(crate) fn links(&self, slots: &Slots, index: usize) -> Option<(u64, u64)>
         requires keeps { KeepsMany slots.now self.now }
         requires there { index < length (many_nodes self.now) }
@@ -253,7 +253,7 @@ impl Many {
     }
 
     /// The parts of node `index`, counted from 0, or None where it is no leaf.
-    #[inline(never)]
+    #[inline(always)]
     pub(crate) fn parts(&self, slots: &Slots, index: usize) -> Option<LeafParts>
         requires keeps { KeepsMany slots.now self.now }
         requires there { index < length (many_nodes self.now) }
