@@ -24,8 +24,8 @@ use std::alloc::Global;
 use std::mem;
 use std::sync::Wait;
 use std::thread::Threads;
-use watch_run::watch_noted;
 use workload_law::{WatchPlan, watch_lines};
+use workload_run::watch_noted;
 
 // Runs the watch of these settings over that store, and writes what it came to. The store is closed before that, and the doors are
 // with their maker again.

@@ -9,7 +9,7 @@ use std::process::Abort;
 use std::sync::Wait;
 use std::thread::Threads;
 use tree_geom::PageSize;
-use watch_run::{WatchPlan, WatchSummary, watch};
+use workload_run::{WatchPlan, WatchSummary, watch};
 
 // What a watch of two readers and three operations comes to, on a new store.
 fn watched<R: Threads + Wait + Sync + Abort>(rt: &R, alloc: Global) -> WatchSummary {

@@ -5,3 +5,10 @@ pub mod Operations
 pub mod Stores
 pub mod Looks
 pub mod Crews
+pub mod Works
+pub mod WatchStages
+pub mod Idling
+pub mod Refusals
+pub mod Lasts
+pub mod WatchCrews
+pub mod Closed

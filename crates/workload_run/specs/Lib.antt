@@ -8,3 +8,15 @@ pub mod Opening
 pub mod Stages
 pub mod Workers
 pub mod Look
+pub mod Idling
+pub mod Writing
+pub mod Keeping
+pub mod Stops
+pub mod Noting
+pub mod Readers
+pub mod WatchStages
+pub mod Doors
+pub mod WatchCrews
+pub mod Lasts
+pub mod Agreeing
+pub mod WatchEnding

@@ -14,7 +14,7 @@ pub enum EarlyEnd {
 }
 
 /// How it ended that was ended by this fault of a call.
-pub fn early_end(fault: Fault) -> EarlyEnd
+pub(crate) fn early_end(fault: Fault) -> EarlyEnd
     ensures { result ≡ ended_by fault }
 {
     match fault {

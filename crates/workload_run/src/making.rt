@@ -13,7 +13,7 @@ use std::sync::Wait;
 use workload_law::laws::calls_end;
 
 /// Makes a blob, whatever its id is. One turn. Where it isn't made nothing is entered.
-pub fn make_blob<R: Wait, D: Door, G: Gate>(
+pub(crate) fn make_blob<R: Wait, D: Door, G: Gate>(
     rt: &R,
     session: &mut Session<'_, D, G>,
 ) -> Result<(), Fault>
