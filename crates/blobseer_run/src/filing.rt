@@ -124,28 +124,25 @@ fn serve_named<R: Wait + Threads + Sync, S: Source, K: Sink, D: BesideDoor, G: G
     let Ok(tree) = Names::new(alloc) else {
         return (End::NoMemory, pass, doors);
     };
-    let Ok((names, mut owner)) = Turn::new(alloc, tree) else {
+    let Ok((turn, mut owner)) = Turn::new(alloc, tree) else {
         return (End::NoMemory, pass, doors);
     };
-    let Ok(names_pass) = owner.pass(&names) else {
+    let Ok(names) = owner.pass(&turn) else {
         // No pass was made yet.
         unreachable!()
     };
-    let held = Held {
-        pass,
-        names: names_pass,
-        doors,
-    };
-    let (end, held) = serve_session(rt, alloc, shared, &names, gate, held, script, out);
-    owner.take_back(&names, held.names);
-    let Ok(tree) = owner.close(names) else {
+    let held = Held { pass, names, doors };
+    let (end, held) = serve_session(rt, alloc, shared, &turn, gate, held, script, out);
+    let Held { pass, names, doors } = held;
+    owner.take_back(&turn, names);
+    let Ok(tree) = owner.close(turn) else {
         // No pass is out.
         unreachable!()
     };
     let _entered = tree.history();
     // The process ends, and gives the memory of all names back at once.
     mem::forget(tree);
-    (end, held.pass, held.doors)
+    (end, pass, doors)
 }
 
 // Serves lines by the first session of a new store with new names, closes the store, and gives the doors back.

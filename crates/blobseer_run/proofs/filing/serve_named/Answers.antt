@@ -30,9 +30,9 @@ returns-clause-lines g c =
     let none_seen = ap (λ (o : Own). o.seen) fresh in
     let made : c.take_back.new.self.made ≡ 1 = ap (λ (o : Own). o.made) c.take_back.ensures.counts.1 ∙ ap (λ (o : Own). o.made) given.counts ∙ omega (arith, none_made) in
     let before : c.pass.new.self.seen ≡ [] = ap (λ (o : Own). o.seen) given.counts ∙ none_seen in
-    let caller : c.in-Ok-pass.names_pass.caller ≡ 1 = ap (λ (p : PassView Entered (Unit {0})). p.caller) given.pass ∙ omega (arith, none_made) in
-    let none : c.in-Ok-pass.names_pass.seen ≡ [] = ap (λ (p : PassView Entered (Unit {0})). p.seen) given.pass ∙ none_seen in
+    let caller : c.in-Ok-pass.names.caller ≡ 1 = ap (λ (p : PassView Entered (Unit {0})). p.caller) given.pass ∙ omega (arith, none_made) in
+    let none : c.in-Ok-pass.names.seen ≡ [] = ap (λ (p : PassView Entered (Unit {0})). p.seen) given.pass ∙ none_seen in
     let longest : c.take_back.new.self.seen ≡ longer [] served.result.1.names.seen = c.take_back.ensures.seen ∙ ap (λ (l : Names.NameLog). longer l served.result.1.names.seen) before in
     let closed = c.in-Ok-close in
-    named_of c.args.shared.now c.args.pass c.in-Ok-pass.names_pass served.result.1.names closed.tree c.take_back.new.self.seen c.take_back.new.self.made _ _ _ _ _ _ _ _ caller none made
+    named_of c.args.shared.now c.args.pass c.in-Ok-pass.names served.result.1.names closed.tree c.take_back.new.self.seen c.take_back.new.self.made _ _ _ _ _ _ _ _ caller none made
     closed.ensures.no_other closed.ensures.history longest c.history-entered.ensures.legal served.ensures.lines
