@@ -22,25 +22,16 @@ pub fn command_in(word: &[u8]) -> Option<FileCommand>
         ((command : FileCommand) → word.now ≢ command_of command)
         (λ command. word.now ≡ command_of command) }
 {
-    if word == b"mkdir".as_slice() {
-        Some(FileCommand::Mkdir)
-    } else if word == b"make".as_slice() {
-        Some(FileCommand::Make)
-    } else if word == b"append".as_slice() {
-        Some(FileCommand::Append)
-    } else if word == b"read".as_slice() {
-        Some(FileCommand::Read)
-    } else if word == b"stat".as_slice() {
-        Some(FileCommand::Stat)
-    } else if word == b"list".as_slice() {
-        Some(FileCommand::List)
-    } else if word == b"where".as_slice() {
-        Some(FileCommand::Where)
-    } else if word == b"finish".as_slice() {
-        Some(FileCommand::Finish)
-    } else if word == b"quit".as_slice() {
-        Some(FileCommand::Quit)
-    } else {
-        None
+    match word {
+        b"mkdir" => Some(FileCommand::Mkdir),
+        b"make" => Some(FileCommand::Make),
+        b"append" => Some(FileCommand::Append),
+        b"read" => Some(FileCommand::Read),
+        b"stat" => Some(FileCommand::Stat),
+        b"list" => Some(FileCommand::List),
+        b"where" => Some(FileCommand::Where),
+        b"finish" => Some(FileCommand::Finish),
+        b"quit" => Some(FileCommand::Quit),
+        _ => None,
     }
 }
