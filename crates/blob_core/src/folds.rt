@@ -17,7 +17,7 @@ use crate::laws::steps_hold;
 use crate::leaves::{folds_page, own_part};
 use crate::state::{ActFault, State, StoredBlob};
 use crate::updates::size_at;
-use crate::walk::{part, put_over};
+use crate::walk::{Subtree, part, put_over};
 use crate::world::FoldKey;
 use blob_model::Bytes;
 use range_log::laws;
@@ -63,17 +63,13 @@ impl State {
     {
         let levels = height(p, size_at(log, version));
         let mut bytes = Vec::new(alloc);
-        self.add_tree(
-            alloc,
-            p,
-            levels,
+        let root = Subtree {
             blob,
-            version as u64,
-            0,
-            page,
-            page,
-            &mut bytes,
-        )?;
+            version: version as u64,
+            height: levels,
+            number: 0,
+        };
+        self.add_tree(alloc, p, root, page, page, &mut bytes)?;
         Ok(bytes)
     }
 

@@ -56,6 +56,15 @@ fn links(node: &Node) -> (u64, u64)
     }
 }
 
+/// The part of a tree that a walk goes through: that under the node of a blob's version for range number `number` of a height.
+#[derive(Clone, Copy)]
+pub(crate) struct Subtree {
+    pub(crate) blob: u64,
+    pub(crate) version: u64,
+    pub(crate) height: u32,
+    pub(crate) number: u64,
+}
+
 impl State {
     /// The node of a blob's version for a range: that of the blob that the version was numbered in.
     fn node_of(&self, blob: u64, version: u64, range: Range) -> Option<Node>
@@ -163,53 +172,52 @@ impl State {
         put_over(alloc, older.as_slice(), start as usize, own.as_slice())
     }
 
-    /// Adds the bytes of the leaves of the pages `first` to `last` under a version's node for range number `q` of a height.
+    /// Adds the bytes of the leaves of the pages `first` to `last` in a part of a tree.
     pub(crate) fn add_tree(
         &self,
         alloc: Global,
         p: PageSize,
-        height: u32,
-        blob: u64,
-        version: u64,
-        q: u64,
+        tree: Subtree,
         first: u64,
         last: u64,
         bytes: &mut Vec<u8>,
     ) -> Result<(), AllocError>
-        requires height { height ≤ 38 }
-        requires fits { (q + 1) * 2 ^ height ≤ 2 ^ 38 }
-        ensures { IfOk result (λ _. bytes.new.items ≡ bytes.old.items ++ (tree_walk_from height p self.now blob version q first last).bytes) }
+        requires height { tree.height ≤ 38 }
+        requires fits { (tree.number + 1) * 2 ^ tree.height ≤ 2 ^ 38 }
+        ensures { IfOk result (λ _. bytes.new.items ≡ bytes.old.items ++ (tree_walk_from tree.height p self.now tree.blob tree.version tree.number first last).bytes) }
     {
-        let pages = 2u64.pow(height);
-        if last < q * pages || (q + 1) * pages <= first {
+        let number = tree.number;
+        let pages = 2u64.pow(tree.height);
+        if last < number * pages || (number + 1) * pages <= first {
             return Ok(());
         }
-        if height == 0 {
-            let leaf = self.leaf_bytes(alloc, p, version, blob, version, q)?;
+        if tree.height == 0 {
+            let leaf = self.leaf_bytes(alloc, p, tree.version, tree.blob, tree.version, number)?;
             bytes.extend_from_slice(leaf.as_slice())?;
             return Ok(());
         }
         let size = p.bytes() * pages;
         let range = Range {
-            offset: q * size,
+            offset: number * size,
             size,
         };
-        let Some(node) = self.node_of(blob, version, range) else {
+        let Some(node) = self.node_of(tree.blob, tree.version, range) else {
             return Ok(());
         };
         let (left, right) = links(&node);
-        self.add_tree(alloc, p, height - 1, blob, left, 2 * q, first, last, bytes)?;
-        self.add_tree(
-            alloc,
-            p,
-            height - 1,
-            blob,
-            right,
-            2 * q + 1,
-            first,
-            last,
-            bytes,
-        )
+        let low = Subtree {
+            version: left,
+            height: tree.height - 1,
+            number: 2 * number,
+            ..tree
+        };
+        self.add_tree(alloc, p, low, first, last, bytes)?;
+        let high = Subtree {
+            version: right,
+            number: 2 * number + 1,
+            ..low
+        };
+        self.add_tree(alloc, p, high, first, last, bytes)
     }
 
     /// What a walk from the root of a version brings of `length` bytes from `offset`. None exactly where the store refuses the
@@ -242,7 +250,13 @@ impl State {
         let first = offset / p.bytes();
         let last = (offset + length - 1) / p.bytes();
         let mut pages = Vec::new(alloc);
-        self.add_tree(alloc, p, levels, blob, version, 0, first, last, &mut pages)?;
+        let root = Subtree {
+            blob,
+            version,
+            height: levels,
+            number: 0,
+        };
+        self.add_tree(alloc, p, root, first, last, &mut pages)?;
         let mut bytes = Vec::new(alloc);
         let skipped = (offset - first * p.bytes()) as usize;
         bytes.extend_from_slice(part(pages.as_slice(), skipped, length as usize))?;
