@@ -1,5 +1,5 @@
 -- What a reader of lines answers, from the items that were taken off its line and its rest.
-use Rattle.std.proofs.Common.{◌≡◌, ℕ, suc, add-one, ◌+◌, ◌<◌, ◌==◌, false, List, [], ◌∷◌, ◌++◌, length, take, drop, drop-cons, slice_index, Option, Some, None, Result, Ok, Err, IfOk, OnOk, sym, ap, ◌∙◌, append_assoc, append-nil, take-append-drop}
+use Rattle.std.proofs.Common.{◌≡◌, ℕ, suc, add-one, ◌+◌, ◌<◌, false, List, [], ◌∷◌, ◌++◌, length, take, drop, drop-cons, slice_index, Option, Some, None, Result, Ok, Err, IfOk, OnOk, sym, ap, ◌∙◌, append_assoc, append-nil, take-append-drop}
 use Rattle.std.specs.Option.{option_to_list}
 use Rattle.items.specs.Items.{ItemStream, after_item, IsNextItem, IsEndOf}
 use Rattle.items.specs.declared.ending.Ending.{Ending}

@@ -8,6 +8,13 @@ use Rattle.items.specs.Lines.{Lining}
 abbrev pub IsWithout : ℕ → List ℕ → Type 0
 IsWithout byte bytes = All (λ b. (b == byte) ≡ false) bytes
 
+-- so many bytes stand at the front of a piece, up to the first line feed or CR, or its end
+pub record IsRun (piece : List ℕ) (count : ℕ) : Type 0 where
+  pub within : count ≤ length piece
+  pub no_feed : IsWithout 10 (take count piece)
+  pub no_return : IsWithout 13 (take count piece)
+  pub enough : count < length piece → slice_index piece count ≢ 10 → slice_index piece count ≡ 13
+
 -- no CR stands at their end
 abbrev pub EndsPlain : List ℕ → Type 0
 EndsPlain bytes = strip_carriage_return bytes ≡ bytes

@@ -1,16 +1,19 @@
-ghost use Rattle.std.specs.Prelude.{◌≡◌, ◌<◌, ◌≤◌, ◌∷◌, ◌++◌, [], length, take, slice_index, IfOk, OnOk};
+ghost use Rattle.std.specs.Prelude.{◌≡◌, ◌≢◌, ◌<◌, ◌≤◌, ◌∷◌, ◌++◌, [], length, take, slice_index, IfOk, OnOk};
 ghost use Rattle.std.specs.Option.{IfSome};
 ghost use Rattle.items.specs.Lines.{item_of};
-ghost use Rattle.items.specs.Text.{IsWithout};
+ghost use Rattle.items.specs.Text.{IsWithout, IsRun};
 ghost use Rattle.items.specs.BegunLine.{GoesOnAs, TakesSome, TakesFront};
 
 use crate::begun_line::{Begun, item, nothing, push_all};
 use crate::line_body::Body;
 use faults::NoMemory;
-use memchr::memchr;
+use memchr::{memchr, memchr2};
 use std::alloc::Global;
 use std::marker::Model;
 use std::mem;
+
+// How many bytes may be looked at for two at once. Among more, two searches for one byte each are faster.
+const NEAR: usize = 32;
 
 // How many bytes come before the first that is this one.
 fn before(piece: &[u8], byte: u8) -> usize
@@ -22,6 +25,28 @@ fn before(piece: &[u8], byte: u8) -> usize
         Some(at) => at,
         None => piece.len(),
     }
+}
+
+// How many bytes come before the first line feed or CR, found by looking for both at once.
+fn near_run(piece: &[u8]) -> usize
+    ensures { IsRun piece.now result }
+{
+    match memchr2(b'\n', b'\r', piece) {
+        Some(at) => at,
+        None => piece.len(),
+    }
+}
+
+// How many bytes come before the first line feed or CR.
+fn run_of(piece: &[u8]) -> usize
+    ensures { IsRun piece.now result }
+{
+    let near = near_run(&piece[..piece.len().min(NEAR)]);
+    if near < NEAR {
+        return near;
+    }
+    let line = before(piece, b'\n');
+    before(&piece[..line], b'\r')
 }
 
 /// A line as it comes, decoded. Contracts see the bytes that have come, or such as say the same however they go on.
@@ -103,41 +128,31 @@ impl<B: Body> Line<B> {
         Ok(())
     }
 
-    // Takes bytes off the front of a text, at least one, and says how many.
-    fn take_some(&mut self, text: &[u8]) -> Result<usize, NoMemory>
-        requires some { 0 < length text.now }
-        requires no_feed { IsWithout 10 text.now }
-        ensures { IfOk result (TakesSome B.lining self.old text.now self.new) }
+    // Takes a CR off the front of a piece, or all bytes before the next CR or line feed. Says how many.
+    fn take_some(&mut self, piece: &[u8]) -> Result<usize, NoMemory>
+        requires some { 0 < length piece.now }
+        requires no_feed { slice_index piece.now 0 ≢ 10 }
+        ensures { IfOk result (TakesSome B.lining self.old piece.now self.new) }
     {
-        let count = before(text, b'\r');
+        let count = run_of(piece);
         if count == 0 {
             self.take_return()?;
             return Ok(1);
         }
-        self.take_run(&text[..count])?;
+        self.take_run(&piece[..count])?;
         Ok(count)
-    }
-
-    // Takes all bytes of a text.
-    fn take_all(&mut self, text: &[u8]) -> Result<(), NoMemory>
-        requires { IsWithout 10 text.now }
-        ensures { OnOk result (GoesOnAs B.lining (self.old ++ text.now) self.new) }
-    {
-        let mut taken = 0;
-        'text: while taken < text.len() {
-            taken += self.take_some(&text[taken..])?;
-        }
-        Ok(())
     }
 
     /// Takes bytes of the line off the front of a piece: all there are, or all before a line feed. Answers how many.
     pub fn take(&mut self, piece: &[u8]) -> Result<usize, NoMemory>
         ensures { IfOk result (TakesFront B.lining self.old piece.now self.new) }
     {
-        let count = before(piece, b'\n');
-        self.take_all(&piece[..count])?;
+        let mut taken = 0;
+        'piece: while taken < piece.len() && piece[taken] != b'\n' {
+            taken += self.take_some(&piece[taken..])?;
+        }
         self.stands();
-        Ok(count)
+        Ok(taken)
     }
 
     /// What the line says, now that it has ended; the next one begins then. Where memory is refused, nothing is left of it.

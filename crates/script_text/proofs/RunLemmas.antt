@@ -1,11 +1,15 @@
 -- A run of a number's digits, and the space that ends it.
-use Rattle.std.proofs.Common.{◌≡◌, ◌∙◌, ℕ, ◌+◌, ◌^◌, ◌<◌, ◌≤◌, List, [], ◌∷◌, ◌++◌, length, take, slice_index, Option, Some, None, sym, ap, subst, arith, length-append}
+use Rattle.std.proofs.Common.{◌≡◌, ◌∙◌, ℕ, suc, ◌+◌, ◌-◌, ◌^◌, ◌<◌, ◌≤◌, List, [], ◌∷◌, ◌++◌, length, take, drop, slice_index, Option, Some, None, true, sym, ap, subst, arith, length-append}
 use Rattle.std.specs.Option.{IfSome}
+use Rattle.std.specs.Fmt.{decimal}
+use Rattle.std.specs.Char.{is_ascii_digit}
 use Rattle.std.proofs.lemmas.List.{length-take-le, take_more}
 use Rattle.request_form.specs.declared.operation.Operation.{Operation}
 use Rattle.script_text.specs.Decoded.{AsksAs, digits_of, fields_text, IsDecoded, EndsNumber, TakesRun, TakesNumber}
 use Rattle.script_text.specs.declared.fields.Part.{Part}
 use Rattle.script_text.specs.declared.fields.Part.TheVariants.{Number}
+use Rattle.script_text.proofs.NumberLemmas.{one_digit}
+use Rattle.script_text.proofs.TakenLemmas.{tail_is}
 use Rattle.script_text.proofs.DecodedLemmas.{same_asks, text_grows, ends_number}
 use Rattle.script_text.proofs.PairLemmas.{asks_after}
 
@@ -24,6 +28,18 @@ digits_come operation ns piece n n' count d fits within e =
       };
       decoded = record { worded = d.worded; numbers_fit = d.numbers_fit; bytes_fit = d.bytes_fit; part_fits = (d.part_fits.0, fits, d.part_fits.2) };
     }
+
+-- a number's first digit, and those behind it
+pub first_comes : (number n : Option ℕ) (piece : List ℕ) (d count : ℕ) → number ≡ None → 0 < length piece → is_ascii_digit (slice_index piece 0) ≡ true → d ≡ slice_index piece 0 - 48
+    → decimal d ++ take count (take (length piece - 1) (drop 1 piece)) ≡ digits_of n → digits_of number ++ take (count + 1) piece ≡ digits_of n
+first_comes number n [] d count none some digit is e = absurd (omega arith)
+first_comes number n (b ∷ bs) d count none some digit is e =
+    let next : count + 1 ≡ suc count = omega arith in
+    ap (λ (m : Option ℕ). digits_of m ++ take (count + 1) (b ∷ bs)) none
+    ∙ ap (λ (m : ℕ). take m (b ∷ bs)) next
+    ∙ ap (λ (l : List ℕ). b ∷ take count l) (sym (tail_is (b ∷ bs) 1 (omega arith)))
+    ∙ ap (λ (l : List ℕ). l ++ take count (take (length (b ∷ bs) - 1) (drop 1 (b ∷ bs)))) (one_digit b digit ∙ ap (λ (m : ℕ). decimal m) (sym is))
+    ∙ e
 
 -- and the space behind them
 pub number_closes : (operation : Operation) (ns piece ns' : List ℕ) (n n' : Option ℕ) (part' : Part) (count : ℕ) → TakesNumber operation ns n piece ns (Number n') count → count < length piece

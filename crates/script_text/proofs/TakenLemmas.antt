@@ -1,6 +1,5 @@
 -- Bytes of a line that were taken off the front of a piece.
-use Rattle.std.proofs.Common.{◌≡◌, ◌≢◌, ◌∙◌, ◌⊎◌, inl, inr, ℕ, ◌+◌, ◌-◌, ◌<◌, ◌≤◌, ◌==◌, Bool, true, false, List, [], ◌∷◌, ◌++◌, length, take, drop, slice_index, Option, None, Some, sym, ap, subst, arith, append_assoc, append-nil, take-add, take-append-drop, length-append, length-drop}
-use Rattle.std.specs.Bool.{MatchBool}
+use Rattle.std.proofs.Common.{◌≡◌, ◌≢◌, ◌∙◌, ◌⊎◌, inl, inr, ℕ, ◌+◌, ◌-◌, ◌<◌, ◌≤◌, ◌==◌, false, List, [], ◌∷◌, ◌++◌, length, take, drop, slice_index, Option, None, Some, sym, ap, subst, arith, append_assoc, append-nil, take-add, take-append-drop, length-append, length-drop}
 use Rattle.std.specs.List.{All}
 use Rattle.std.proofs.lemmas.List.{drop_more, length-take-le, take_all, take_more}
 use Rattle.std.proofs.lemmas.List.Elements.{All-drop}
@@ -160,8 +159,3 @@ space_comes word word' piece text count within is letters space behind =
       is_text = record { no_feed = plain.no_feed; no_mark = plain.no_mark };
       ends = λ _. strip-plain text plain.no_return;
     }
-
-pub letter_goes : (length_of_word byte : ℕ) (letter : Bool) → length_of_word < 12 → MatchBool letter (IsLetter byte) (IsLetter byte → ⊥)
-    → MatchBool letter (IsLetter byte × (length_of_word < 12)) ((IsLetter byte → ⊥) ⊎ (12 ≤ length_of_word))
-letter_goes n byte true room is = (is, room)
-letter_goes n byte false room is = inl is

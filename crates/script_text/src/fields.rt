@@ -89,20 +89,42 @@ struct Counted {
     count: usize,
 }
 
+// The number that the digits of one and those at the front of a piece spell, as far as they do.
+fn digits_behind(first: u64, piece: &[u8]) -> Counted
+    ensures within { result.count ≤ length piece.now }
+    ensures digits { decimal first ++ take result.count piece.now ≡ digits_of result.number }
+{
+    let mut number = first;
+    let mut count = 0;
+    'digits: while count < piece.len() && piece[count].is_ascii_digit() {
+        let Some(more) = digit_behind(number, piece[count]) else {
+            break;
+        };
+        number = more;
+        count += 1;
+    }
+    Counted {
+        number: Some(number),
+        count,
+    }
+}
+
 // The number that its digits so far and those at the front of a piece spell, as far as they do.
 fn count_digits(number: Option<u64>, piece: &[u8]) -> Counted
     ensures within { result.count ≤ length piece.now }
     ensures digits { digits_of number ++ take result.count piece.now ≡ digits_of result.number }
 {
-    let mut counted = Counted { number, count: 0 };
-    'digits: while counted.count < piece.len() {
-        let Some(more) = more_digits(counted.number, piece[counted.count]) else {
-            break;
-        };
-        counted.number = Some(more);
-        counted.count += 1;
+    if let Some(number) = number {
+        return digits_behind(number, piece);
     }
-    counted
+    if piece.is_empty() || !piece[0].is_ascii_digit() {
+        return Counted { number, count: 0 };
+    }
+    let behind = digits_behind(u64::from(piece[0] - b'0'), &piece[1..]);
+    Counted {
+        number: behind.number,
+        count: behind.count + 1,
+    }
 }
 
 // The field that comes behind so many numbers, if one may.
@@ -223,6 +245,7 @@ fn before_other(piece: &[u8]) -> usize
 }
 
 // The pairs of hex digits at the front of a piece.
+#[inline(never)]
 fn pairs_of(piece: &[u8]) -> &[u8]
     ensures front { result.now ≡ take (length result.now) piece.now }
     ensures within { length result.now ≤ length piece.now }
@@ -275,6 +298,7 @@ fn decode_behind(all: &mut [u8], held: usize, digits: &[u8])
 }
 
 // Puts the bytes that pairs of hex digits spell behind those that have come.
+#[inline(never)]
 fn push_pairs(bytes: &mut Vec<u8>, digits: &[u8]) -> Result<(), NoMemory>
     requires even { length digits.now % 2 ≡ 0 }
     requires digits { AllPass is_hex_digit digits.now }

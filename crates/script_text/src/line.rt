@@ -45,16 +45,16 @@ fn asked(alloc: Global, word: &[u8]) -> Option<Fields>
     Fields::of(alloc, Operation::of_word(word)?)
 }
 
-// Whether a byte is one more letter of a command, for which there is room.
-fn goes_on(word: &ArrayVec<u8, 12>, byte: u8) -> bool
-    ensures { MatchBool result
-        (IsLetter byte × (array_vec_len word.now < 12))
-        ((IsLetter byte → ⊥) ⊎ (12 ≤ array_vec_len word.now)) }
+// How many bytes come before the first that is no letter of a command.
+fn letters_of(piece: &[u8]) -> usize
+    ensures within { result ≤ length piece.now }
+    ensures letters { All IsLetter (take result piece.now) }
+    ensures stops { result < length piece.now → IsLetter (slice_index piece.now result) → ⊥ }
 {
-    if word.is_full() {
-        return false;
+    match piece.iter().position(|b| !is_letter(*b)) {
+        Some(at) => at,
+        None => piece.len(),
     }
-    is_letter(byte)
 }
 
 // Adds the letters at the front of a piece to those of a command, as far as there is room, and says how many.
@@ -65,11 +65,8 @@ fn add_letters(word: &mut ArrayVec<u8, 12>, piece: &[u8]) -> usize
     ensures letters { All IsLetter word.new.items }
     ensures stops { result < length piece.now → (IsLetter (slice_index piece.now result) → ⊥) ⊎ (12 ≤ array_vec_len word.new) }
 {
-    let mut count = 0;
-    'letters: while count < piece.len() && goes_on(word, piece[count]) {
-        word.push(piece[count]);
-        count += 1;
-    }
+    let count = letters_of(&piece[..word.remaining_capacity().min(piece.len())]);
+    word.try_extend_from_slice(&piece[..count]).unwrap();
     count
 }
 

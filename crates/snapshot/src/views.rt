@@ -79,6 +79,7 @@ impl<'a> View<'a> {
     }
 
     /// The size of version `j`, in bytes.
+    #[inline(always)]
     pub fn size_at(&self, j: u64) -> u64
         requires { j ≤ length self.now.rows }
         ensures size { result ≡ size_of (updates_of self.now) j }
@@ -184,6 +185,7 @@ impl<'a> View<'a> {
 
     /// The stored page of update `j` that the number `q` of a piece means. First come the update's pages, whose bytes are those
     /// of the update from `q` times the page size on, and then those of the blob that it stores anew.
+    #[inline(always)]
     pub fn page(&self, j: u64, q: u32) -> &'a StoredPage
         requires version { (1 ≤ j) × (j ≤ length self.now.rows) }
         requires number { q < length (stored_of (row_at self.now.rows j)) }
