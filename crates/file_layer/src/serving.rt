@@ -101,7 +101,7 @@ trait LineDialect {
 
     // The reply as it is written.
     fn say_line(&self, reply: FileReply) -> Result<Said, NoMemory>
-        ensures { IfOk result (λ parts. parts.head ++ parts.body ≡ said reply) };
+        ensures { IfOk result (λ parts. parts.head.items ++ parts.body ≡ said reply) };
 }
 
 impl LineDialect for FileDialect {

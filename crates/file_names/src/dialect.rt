@@ -67,10 +67,10 @@ impl FileDialect {
 
     /// The reply as it is written.
     pub fn say(&self, reply: FileReply) -> Result<Said, NoMemory>
-        ensures { IfOk result (λ parts. parts.head ++ parts.body ≡ said reply) }
+        ensures { IfOk result (λ parts. parts.head.items ++ parts.body ≡ said reply) }
     {
         match reply_line(self.alloc, reply) {
-            Ok(line) => Ok(Said::whole(self.alloc, Bytes::of(line))),
+            Ok(line) => Ok(Said::of_body(Bytes::of(line))),
             Err(_) => Err(NoMemory),
         }
     }

@@ -1,5 +1,5 @@
 -- How replies are framed.
-use Rattle.std.specs.Prelude.{ℕ, List, [], ◌∷◌, ◌++◌, length, flat_map}
+use Rattle.std.specs.Prelude.{◌≡◌, ℕ, List, [], ◌∷◌, ◌++◌, length, flat_map}
 use Rattle.byteorder.specs.Endian.{big_bytes}
 use Rattle.request_form.specs.declared.form.Reply.{Reply}
 use Rattle.request_form.specs.declared.form.Reply.TheVariants as Replies
@@ -65,6 +65,10 @@ reply_bytes (Replies.Contents bytes) = 143 ∷ bytes
 reply_bytes (Replies.Repaired published) = 144 ∷ fields (published ∷ [])
 reply_bytes (Replies.Refused fault) = 255 ∷ fault_fields fault
 reply_bytes Replies.Bye = 141 ∷ []
+
+-- a reply that gives no bytes of a blob
+abbrev pub IsShort : Reply → Type 0
+IsShort reply = ((bytes : List ℕ) → reply ≡ Replies.Content bytes → ⊥) × ((bytes : List ℕ) → reply ≡ Replies.Contents bytes → ⊥)
 
 -- a frame: the number of its bytes in 4 bytes, the highest first, and then these
 unfoldable pub frame_of : List ℕ → List ℕ

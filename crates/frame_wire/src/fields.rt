@@ -3,7 +3,7 @@ ghost use Rattle.request_form.specs.Operations.{number_of, since_of, IsSince};
 ghost use Rattle.frame_wire.specs.Requests.{fits, request_of};
 ghost use Rattle.items.specs.Come.{Come, TakesBytes};
 
-use crate::number::take_number;
+use crate::number::take_numbers;
 use crate::operation::{heard, known};
 use arrayvec::ArrayVec;
 use blob_model::Bytes;
@@ -118,8 +118,9 @@ impl Body for Fields {
     }
 
     fn take(&mut self, piece: &[u8]) -> Result<usize, NoMemory> {
-        let count = if self.numbers.len() < self.operation.numbers() {
-            take_number(&mut self.numbers, &mut self.part, piece)
+        let most = self.operation.numbers();
+        let count = if self.numbers.len() < most {
+            take_numbers(&mut self.numbers, most, &mut self.part, piece)
         } else {
             take_bytes(&mut self.bytes, self.left, piece)?
         };

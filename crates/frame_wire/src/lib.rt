@@ -9,6 +9,7 @@ ghost use Rattle.std.specs.Prelude.{◌≡◌};
 
 mod dialect;
 mod fields;
+pub mod head;
 mod number;
 mod operation;
 mod pairs;

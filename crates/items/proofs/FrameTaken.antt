@@ -1,6 +1,6 @@
 -- Bytes taken off the front of a piece, and whole frames.
-use Rattle.std.proofs.Common.{◌≡◌, ◌∙◌, ℕ, ◌+◌, ◌-◌, ◌^◌, ◌<◌, ◌≤◌, ◌==◌, true, false, List, [], ◌∷◌, ◌++◌, length, take, drop, take-add, get_or, replicate, refl, sym, ap, subst, arith, append_assoc, length-append, length-drop}
-use Rattle.std.proofs.lemmas.List.{length-replicate, length-take-le, take_all}
+use Rattle.std.proofs.Common.{◌≡◌, ◌∙◌, ℕ, ◌+◌, ◌-◌, ◌^◌, ◌<◌, ◌≤◌, ◌==◌, true, false, List, [], ◌∷◌, ◌++◌, length, take, drop, take-add, get_or, replicate, refl, sym, ap, subst, arith, append_assoc, length-append}
+use Rattle.std.proofs.lemmas.List.{length-replicate, length-take-le}
 use Rattle.std.proofs.lemmas.Bool.{false≢true}
 use Rattle.std.proofs.lemmas.Bool.Decides.{nat_tests}
 use Rattle.arrayvec.specs.ArrayVec.{ArrayVec}
@@ -115,10 +115,6 @@ complete_not_open f is come b begun whole part = let w = whole_is (begun_bytes c
 
 pub complete_gives : {A B : Type 0} (f : Framing A) (is : IsFraming f) (come : B → Come) (b : Begun B) (item : A) → IsBegun f.limit come b → is_complete come b ≡ true → item_of f (begun_bytes come b) ≡ item → (more : List ℕ) → framed f (begun_bytes come b ++ more) ≡ after_item item (framed f more)
 complete_gives {A = A} f is come b item begun whole says more = whole_heard f (begun_bytes come b) more (complete_whole f is come b begun whole) ∙ ap (λ (h : A). after_item h (framed f more)) says
-
--- what is left of a piece behind those that were taken
-pub tail_is : (piece : List ℕ) (taken : ℕ) → taken ≤ length piece → take (length piece - taken) (drop taken piece) ≡ drop taken piece
-tail_is piece taken within = let there = length-drop taken piece in take_all (length piece - taken) (drop taken piece) (omega arith)
 
 some_bytes : (n : ℕ) (bytes : List ℕ) → false ≡ (length (frame_part n bytes) == 0)
 some_bytes n bytes = let l = frame_part-length n bytes in grind (arith, nat_tests, l)

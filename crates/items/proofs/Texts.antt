@@ -1,8 +1,8 @@
 -- What a text says as a line, however it goes on.
-use Rattle.std.proofs.Common.{◌≡◌, ◌≢◌, ◌∙◌, ℕ, zero, suc, ◌-◌, ◌<◌, ◌≤◌, ◌==◌, nat_lt, Bool, true, false, cond, List, [], ◌∷◌, ◌++◌, length, take, slice_index, Some, refl, sym, ap, arith, append-nil, length-append}
+use Rattle.std.proofs.Common.{◌≡◌, ◌≢◌, ◌∙◌, ℕ, zero, suc, ◌-◌, ◌<◌, ◌≤◌, ◌==◌, nat_lt, Bool, true, false, cond, List, [], ◌∷◌, ◌++◌, length, take, drop, slice_index, Some, refl, sym, ap, arith, append-nil, length-append, length-drop}
 use Rattle.std.specs.Str.Lines.{strip_carriage_return}
 use Rattle.std.proofs.lemmas.Bool.{ne_eqb, le-ltb}
-use Rattle.std.proofs.lemmas.List.{length-take-le, take-take}
+use Rattle.std.proofs.lemmas.List.{length-take-le, take-take, take_all}
 use Rattle.std.proofs.lemmas.List.Elements.{All-take}
 use Rattle.items.specs.Lines.{Lining, item_of_text, item_of}
 use Rattle.items.specs.Text.{IsWithout, EndsPlain, IsText, TakesText}
@@ -107,3 +107,7 @@ took f text run text' count k is next within t =
           (λ more. ap (λ (l : List ℕ). f.spelled ((text ++ l) ++ more)) (sym twice) ∙ t.spells more);
       ends = λ out. t.ends (All-take (λ x. (x == 13) ≡ false) k run out);
     }
+
+-- what is left of a piece behind those that were taken
+pub tail_is : (piece : List ℕ) (taken : ℕ) → taken ≤ length piece → take (length piece - taken) (drop taken piece) ≡ drop taken piece
+tail_is piece taken within = let there = length-drop taken piece in take_all (length piece - taken) (drop taken piece) (omega arith)

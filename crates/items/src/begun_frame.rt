@@ -105,6 +105,10 @@ pub fn take_part<B: Body>(
 {
     match begun {
         Begun::Length(part) => {
+            if part.is_empty() && piece.len() >= 4 {
+                *begun = counted(short_number(&piece[..4]));
+                return Ok(4);
+            }
             let count = fill(part, piece);
             if !part.is_full() {
                 return Ok(count);

@@ -1,6 +1,6 @@
 -- A link in memory: what is answered to a frame, and what is kept of the frames.
-use Rattle.std.proofs.Common.{◌≡◌, ◌∙◌, ◌⊎◌, ℕ, ◌+◌, ◌-◌, ◌<◌, ◌≤◌, ◌==◌, ◌||◌, nat_lt, Bool, cond, not, true, false, true≢false, List, [], ◌∷◌, ◌++◌, length, take, drop, take-add, take-append-drop, Option, Some, None, get_or, flat_map, refl, sym, ap, subst, arith, append_assoc, append-nil, length-append, length-drop, inl, inr}
-use Rattle.std.proofs.lemmas.List.{take_all, take-append-le, drop-append-le, drop-drop}
+use Rattle.std.proofs.Common.{◌≡◌, ◌∙◌, ◌⊎◌, ℕ, ◌+◌, ◌<◌, ◌≤◌, ◌==◌, ◌||◌, nat_lt, Bool, cond, not, true, false, true≢false, List, [], ◌∷◌, ◌++◌, length, take, drop, take-add, take-append-drop, Option, Some, None, get_or, flat_map, refl, sym, ap, subst, arith, append_assoc, append-nil, length-append, length-drop, inl, inr}
+use Rattle.std.proofs.lemmas.List.{take-append-le, drop-append-le, drop-drop}
 use Rattle.std.proofs.Math.ListN.{drop_of_length-le}
 use Rattle.std.proofs.Math.Seq.{take-append_seam}
 use Rattle.std.proofs.lemmas.Bool.{cases_lt}
@@ -129,10 +129,6 @@ item_none frame short more not_put not_get not_quit = item_at frame short more �
 
 pub got_by : (node : Node) (i f n i' f' n' : ℕ) (reply : NodeReply) → i ≡ i' → f ≡ f' → n ≡ n' → get_reply node i f n ≡ reply → reply ≡ get_reply node i' f' n'
 got_by node i f n i' f' n' reply ei ef en e = sym e ∙ ap (λ (x : ℕ). get_reply node x f n) ei ∙ ap (λ (x : ℕ). get_reply node i' x n) ef ∙ ap (λ (x : ℕ). get_reply node i' f' x) en
-
--- what is left of a list behind its front
-pub tail_is : (l : List ℕ) (n : ℕ) → n ≤ length l → take (length l - n) (drop n l) ≡ drop n l
-tail_is l n within = let there = length-drop n l in take_all (length l - n) (drop n l) (omega arith)
 
 -- ---- frames, one after the other
 

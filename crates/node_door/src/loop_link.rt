@@ -15,7 +15,7 @@ ghost use Rattle.faults.specs.Counts.{RoseBy, count_after};
 
 use byteorder::{BigEndian, ByteOrder};
 use faults::{NoMemory, count_up};
-use page_node::saying::{Front, bye_frame, fault_frame, given_front, kept_frame, memory_frame};
+use page_node::saying::{Head, bye_frame, fault_frame, given_front, kept_frame, memory_frame};
 use page_node::{MAX_FRAME, NodeFault, Shelf, number_at};
 use ports::stream::{Ends, Sink, Source, Taken, Written};
 use std::alloc::Global;
@@ -67,7 +67,7 @@ fn refuse(replies: &mut Vec<u8>, room: usize, fault: NodeFault) -> bool
 }
 
 // Keeps a page whose put isn't refused, and says how the reply is framed.
-fn keep(shelf: &mut Shelf, bytes: &[u8], id: u64) -> Front
+fn keep(shelf: &mut Shelf, bytes: &[u8], id: u64) -> Head
     requires { put_reply shelf.old bytes.now ≡ Replies.Kept id }
     ensures kept { (reply : NodeReply) × NodeAnswers shelf.old (Asked (Requests.Put bytes.now)) reply shelf.new × (result.items ≡ said reply) }
     ensures length { length result.items ≡ 13 }

@@ -8,70 +8,15 @@ ghost use Rattle.page_node.specs.declared.form.NodeReply.TheVariants as Replies;
 ghost use Rattle.page_node.specs.declared.form.NodeFault.TheVariants as Faults;
 
 use crate::form::{NodeFault, NodeReply};
-use arrayvec::ArrayVec;
 use blob_model::Bytes;
-use byteorder::{BigEndian, ByteOrder};
 use faults::NoMemory;
+pub use frame_wire::head::Head;
+use frame_wire::head::{add, add_wide, begin};
 use request_form::Said;
 use std::alloc::Global;
 
-/// The most bytes of a frame, but for those of a page: a refusal's with a number of 16 bytes.
-pub const MOST: usize = 37;
-
-/// A frame, or its front where a page's bytes come behind it.
-pub type Front = ArrayVec<u8, MOST>;
-
-// Adds bytes for which there is room.
-fn extend(front: &mut Front, bytes: &[u8])
-    requires { length front.old.items + length bytes.now ≤ 37 }
-    ensures { front.new.items ≡ front.old.items ++ bytes.now }
-{
-    match front.try_extend_from_slice(bytes) {
-        Ok(()) => {}
-        Err(_) => unreachable!(),
-    }
-}
-
-// A frame's length and its operation.
-#[tactic(auto, unfolding(items::specs::BegunFrame::frame_part))]
-fn begin(count: u32, operation: u8) -> Front
-    ensures front { result.items ≡ frame_part count (operation ∷ []) }
-    ensures length { length result.items ≡ 5 }
-{
-    let mut length = [0u8; 4];
-    BigEndian::write_u32(&mut length, count);
-    let mut front = Front::new();
-    extend(&mut front, &length);
-    extend(&mut front, &[operation]);
-    front
-}
-
-// Adds a number.
-#[tactic(auto, unfolding(frame_wire::specs::Said::field))]
-fn add(front: &mut Front, number: u64)
-    requires { length front.old.items + 8 ≤ 37 }
-    ensures front { front.new.items ≡ front.old.items ++ field number }
-    ensures length { length front.new.items ≡ length front.old.items + 8 }
-{
-    let mut bytes = [0u8; 8];
-    BigEndian::write_u64(&mut bytes, number);
-    extend(front, &bytes);
-}
-
-// Adds a number in 16 bytes.
-#[tactic(auto, unfolding(frame_wire::specs::Said::wide_field))]
-fn add_wide(front: &mut Front, number: u128)
-    requires { length front.old.items + 16 ≤ 37 }
-    ensures front { front.new.items ≡ front.old.items ++ wide_field number }
-    ensures length { length front.new.items ≡ length front.old.items + 16 }
-{
-    let mut bytes = [0u8; 16];
-    BigEndian::write_u128(&mut bytes, number);
-    extend(front, &bytes);
-}
-
 // The frame of an operation and one number.
-fn number_frame(operation: u8, number: u64) -> Front
+fn number_frame(operation: u8, number: u64) -> Head
     ensures frame { result.items ≡ frame_of (operation ∷ field number) }
     ensures length { length result.items ≡ 13 }
 {
@@ -81,7 +26,7 @@ fn number_frame(operation: u8, number: u64) -> Front
 }
 
 // The frame of a refusal with one number.
-fn refusal_frame(refusal: u64, number: u64) -> Front
+fn refusal_frame(refusal: u64, number: u64) -> Head
     ensures { result.items ≡ frame_of (255 ∷ (field refusal ++ field number)) }
 {
     let mut front = begin(17, 255);
@@ -91,7 +36,7 @@ fn refusal_frame(refusal: u64, number: u64) -> Front
 }
 
 // The frame of the refusal with a number of 16 bytes.
-fn past_page_frame(end: u128, length: u64) -> Front
+fn past_page_frame(end: u128, length: u64) -> Head
     ensures { result.items ≡ frame_of (255 ∷ (field 24 ++ (wide_field end ++ field length))) }
 {
     let mut front = begin(33, 255);
@@ -102,7 +47,7 @@ fn past_page_frame(end: u128, length: u64) -> Front
 }
 
 /// A refusal's frame.
-pub fn fault_frame(fault: &NodeFault) -> Front
+pub fn fault_frame(fault: &NodeFault) -> Head
     ensures { result.items ≡ said (Replies.Refused fault.now) }
 {
     match *fault {
@@ -117,7 +62,7 @@ pub fn fault_frame(fault: &NodeFault) -> Front
 }
 
 /// The frame of want of memory.
-pub fn memory_frame() -> Front
+pub fn memory_frame() -> Head
     ensures frame { result.items ≡ said (Replies.Refused Faults.NoMemory) }
     ensures length { length result.items ≡ 13 }
 {
@@ -125,7 +70,7 @@ pub fn memory_frame() -> Front
 }
 
 /// The frame of the reply to a put whose page is kept: it tells the page's id.
-pub fn kept_frame(id: u64) -> Front
+pub fn kept_frame(id: u64) -> Head
     ensures frame { result.items ≡ said (Replies.Kept id) }
     ensures length { length result.items ≡ 13 }
 {
@@ -133,14 +78,14 @@ pub fn kept_frame(id: u64) -> Front
 }
 
 /// The frame of the reply to the last request.
-pub fn bye_frame() -> Front
+pub fn bye_frame() -> Head
     ensures { result.items ≡ said Replies.Bye }
 {
     begin(1, 141)
 }
 
 /// The front of the reply that gives so many bytes, which stand behind it.
-pub fn given_front(count: u32) -> Front
+pub fn given_front(count: u32) -> Head
     requires { count + 1 < 2 ^ 32 }
     ensures { (bytes : List ℕ) → length bytes ≡ count → result.items ++ bytes ≡ said (Replies.Given bytes) }
 {
@@ -148,7 +93,7 @@ pub fn given_front(count: u32) -> Front
 }
 
 /// The front of the frame that puts a page of so many bytes, which stand behind it.
-pub fn put_front(count: u32) -> Front
+pub fn put_front(count: u32) -> Head
     requires { count + 1 < 2 ^ 32 }
     ensures { (bytes : List ℕ) → length bytes ≡ count → result.items ++ bytes ≡ asked (Requests.Put bytes) }
 {
@@ -156,7 +101,7 @@ pub fn put_front(count: u32) -> Front
 }
 
 /// The frame that asks for `length` bytes of the page with that id, from byte `from` on.
-pub fn get_frame(id: u64, from: u64, length: u64) -> Front
+pub fn get_frame(id: u64, from: u64, length: u64) -> Head
     ensures { result.items ≡ asked (Requests.Get id from length) }
 {
     let mut front = begin(25, 33);
@@ -166,38 +111,26 @@ pub fn get_frame(id: u64, from: u64, length: u64) -> Front
     front
 }
 
-// The bytes of a frame as a vector.
-fn whole(alloc: Global, front: &Front) -> Result<Said, NoMemory>
-    ensures { IfOk result (λ parts. parts.head ++ parts.body ≡ front.now.items) }
-{
-    let bytes = Vec::from_slice(alloc, front.as_slice())?;
-    Ok(Said::whole(alloc, Bytes::of(bytes)))
-}
-
 // The frame of given bytes, which are its body as they are.
-fn given(alloc: Global, bytes: Bytes) -> Result<Said, NoMemory>
-    ensures { IfOk result (λ parts. parts.head ++ parts.body ≡ said (Replies.Given bytes)) }
+fn given(bytes: Bytes) -> Result<Said, NoMemory>
+    ensures { IfOk result (λ parts. parts.head.items ++ parts.body ≡ said (Replies.Given bytes)) }
 {
     // No frame's length counts more.
     if bytes.len() >= u32::MAX as usize {
         return Err(NoMemory);
     }
-    let front = given_front(bytes.len() as u32);
-    let head = Vec::from_slice(alloc, front.as_slice())?;
-    Ok(Said {
-        head: Bytes::of(head),
-        body: bytes,
-    })
+    let head = given_front(bytes.len() as u32);
+    Ok(Said { head, body: bytes })
 }
 
 /// A reply's frame in two parts. The bytes that a node gives are the body, uncopied. Each other reply is all head.
 pub(crate) fn say(alloc: Global, reply: NodeReply) -> Result<Said, NoMemory>
-    ensures { IfOk result (λ parts. parts.head ++ parts.body ≡ said reply) }
+    ensures { IfOk result (λ parts. parts.head.items ++ parts.body ≡ said reply) }
 {
     match reply {
-        NodeReply::Kept { id } => whole(alloc, &kept_frame(id)),
-        NodeReply::Given { bytes } => given(alloc, bytes),
-        NodeReply::Bye => whole(alloc, &bye_frame()),
-        NodeReply::Refused(fault) => whole(alloc, &fault_frame(&fault)),
+        NodeReply::Kept { id } => Ok(Said::of_head(alloc, kept_frame(id))),
+        NodeReply::Given { bytes } => given(bytes),
+        NodeReply::Bye => Ok(Said::of_head(alloc, bye_frame())),
+        NodeReply::Refused(fault) => Ok(Said::of_head(alloc, fault_frame(&fault))),
     }
 }

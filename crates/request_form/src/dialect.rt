@@ -1,28 +1,44 @@
 use crate::form::{Ending, Heard, Reply};
+use arrayvec::ArrayVec;
 use blob_model::Bytes;
 use faults::NoMemory;
 use std::alloc::Global;
 
+/// The most bytes of a head: a frame's with three numbers, one of them of 16 bytes.
+pub const MAX_HEAD: usize = 37;
+
+/// Bytes that stand in place, and take no memory: a short frame, or the front of one where the bytes of a read come behind it.
+pub type Head = ArrayVec<u8, MAX_HEAD>;
+
 /// A reply as it is written: the bytes of its head, and behind them those of its body.
 ///
-/// So the bytes of a read can be written from where they lie.
+/// So a short reply takes no memory, and the bytes of a read can be written from where they lie.
 #[derive(Drop)]
 pub struct Said {
-    pub head: Bytes,
+    pub head: Head,
     pub body: Bytes,
 }
 
 impl Said {
     ghost use Rattle.std.specs.Prelude.{◌≡◌, ◌++◌, []};
 
-    /// All of these bytes as the head. Takes no memory.
-    pub fn whole(alloc: Global, bytes: Bytes) -> Said
-        ensures body { result.body ≡ [] }
-        ensures bytes { result.head ++ result.body ≡ bytes }
+    /// A reply that is no more than a head. Takes no memory.
+    pub fn of_head(alloc: Global, head: Head) -> Said
+        ensures { result.head.items ++ result.body ≡ head.items }
     {
         Said {
-            head: bytes,
+            head,
             body: Bytes::of(Vec::new(alloc)),
+        }
+    }
+
+    /// A reply that is no more than a body.
+    pub fn of_body(body: Bytes) -> Said
+        ensures { result.head.items ++ result.body ≡ body }
+    {
+        Said {
+            head: Head::new(),
+            body,
         }
     }
 }
@@ -59,5 +75,5 @@ pub trait Dialect {
     /// The reply as it is written, in two parts: head and body one behind the other are what `say` gives. What a read gave
     /// may be the body, uncopied.
     fn say_in_parts(&self, reply: Reply) -> Result<Said, NoMemory>
-        ensures { IfOk result (λ parts. parts.head ++ parts.body ≡ said reply) };
+        ensures { IfOk result (λ parts. parts.head.items ++ parts.body ≡ said reply) };
 }

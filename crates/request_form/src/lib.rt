@@ -10,7 +10,7 @@ mod operation;
 mod ranges;
 mod service;
 
-pub use dialect::{Dialect, Said};
+pub use dialect::{Dialect, Head, Said};
 pub use faults::NoMemory;
 pub use form::{Ending, Fault, Heard, Reply, Request};
 pub use items::Chunk;

@@ -9,7 +9,7 @@ use Rattle.script_text.specs.Decoded.{AsksAs, digits_of, fields_text, IsDecoded,
 use Rattle.script_text.specs.declared.fields.Part.{Part}
 use Rattle.script_text.specs.declared.fields.Part.TheVariants.{Number}
 use Rattle.script_text.proofs.NumberLemmas.{one_digit}
-use Rattle.script_text.proofs.TakenLemmas.{tail_is}
+use Rattle.items.proofs.Texts.{tail_is}
 use Rattle.script_text.proofs.DecodedLemmas.{same_asks, text_grows, ends_number}
 use Rattle.script_text.proofs.PairLemmas.{asks_after}
 

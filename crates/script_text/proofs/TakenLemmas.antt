@@ -1,7 +1,7 @@
 -- Bytes of a line that were taken off the front of a piece.
 use Rattle.std.proofs.Common.{◌≡◌, ◌≢◌, ◌∙◌, ◌⊎◌, inl, inr, ℕ, ◌+◌, ◌-◌, ◌<◌, ◌≤◌, ◌==◌, false, List, [], ◌∷◌, ◌++◌, length, take, drop, slice_index, Option, None, Some, sym, ap, subst, arith, append_assoc, append-nil, take-add, take-append-drop, length-append, length-drop}
 use Rattle.std.specs.List.{All}
-use Rattle.std.proofs.lemmas.List.{drop_more, length-take-le, take_all, take_more}
+use Rattle.std.proofs.lemmas.List.{drop_more, length-take-le, take_more}
 use Rattle.std.proofs.lemmas.List.Elements.{All-drop}
 use Rattle.items.specs.Text.{IsWithout, SpellsBad, TakesText, Takes}
 use Rattle.items.proofs.Texts.{strip-plain}
@@ -38,9 +38,6 @@ byte_stops text (b ∷ rest) mid text' run some none t a =
 -- so many bytes have been taken off the front of a piece, or none yet
 abbrev pub HasTaken : List ℕ → List ℕ → List ℕ → ℕ → Type 0
 HasTaken text piece text' count = ((count ≡ 0) × (text' ≡ text)) ⊎ TakesText script_lines text piece text' count
-
-pub tail_is : (piece : List ℕ) (taken : ℕ) → taken ≤ length piece → take (length piece - taken) (drop taken piece) ≡ drop taken piece
-tail_is piece taken within = let there = length-drop taken piece in take_all (length piece - taken) (drop taken piece) (omega arith)
 
 -- and more behind them
 pub takes_more : (text piece now slice text' : List ℕ) (taken count : ℕ) → taken ≤ length piece → slice ≡ drop taken piece → HasTaken text piece now taken

@@ -67,6 +67,6 @@ impl Dialect for ScriptDialect {
     }
 
     fn say_in_parts(&self, reply: Reply) -> Result<Said, NoMemory> {
-        Ok(Said::whole(self.alloc, self.say(&reply)?))
+        Ok(Said::of_body(self.say(&reply)?))
     }
 }

@@ -127,8 +127,8 @@ fn count_digits(number: Option<u64>, piece: &[u8]) -> Counted
     }
 }
 
-// The field that comes behind so many numbers, if one may.
-fn field_behind(operation: Operation, count: usize) -> Option<Part>
+/// The field that comes behind so many numbers, if one may.
+pub fn field_behind(operation: Operation, count: usize) -> Option<Part>
     requires { count ≤ numbers_of operation }
     ensures { IsFieldBehind operation count result }
 {
@@ -244,7 +244,8 @@ fn before_other(piece: &[u8]) -> usize
     }
 }
 
-// The pairs of hex digits at the front of a piece.
+// The pairs of hex digits at the front of a piece. It is kept out of the loop over a line's parts, like all that short lines don't need:
+// the compiler makes ready for it in each of them.
 #[inline(never)]
 fn pairs_of(piece: &[u8]) -> &[u8]
     ensures front { result.now ≡ take (length result.now) piece.now }
@@ -297,7 +298,7 @@ fn decode_behind(all: &mut [u8], held: usize, digits: &[u8])
     decode_digits(digits, &mut all[held..]);
 }
 
-// Puts the bytes that pairs of hex digits spell behind those that have come.
+// Puts the bytes that pairs of hex digits spell behind those that have come. It is kept out of the loop.
 #[inline(never)]
 fn push_pairs(bytes: &mut Vec<u8>, digits: &[u8]) -> Result<(), NoMemory>
     requires even { length digits.now % 2 ≡ 0 }
@@ -315,7 +316,8 @@ fn push_pairs(bytes: &mut Vec<u8>, digits: &[u8]) -> Result<(), NoMemory>
     }
 }
 
-// Adds one more byte, and says which part has come then.
+// Adds one more byte, and says which part has come then. Runs take most bytes, so it is kept out of the loop, and `add` with it.
+#[inline(never)]
 fn next_part(
     operation: Operation,
     numbers: &mut ArrayVec<u64, 4>,
@@ -347,23 +349,22 @@ fn next_part(
 }
 
 impl Fields {
-    /// The fields of an operation, of which nothing has come, or none where it has no fields.
-    pub fn of(alloc: Global, operation: Operation) -> Option<Fields>
-        requires { HasWord operation (command_of operation) }
-        ensures { MatchOption result
-            (AsksNothing (command_of operation ++ 32 ∷ []))
-            (λ text. text ≡ command_of operation ++ 32 ∷ []) }
+    /// The fields of an operation, of which nothing has come, and the first of them begins.
+    pub fn of(alloc: Global, operation: Operation, part: Part) -> Fields
+        requires worded { HasWord operation (command_of operation) }
+        requires first { IsFieldBehind operation 0 (Some part) }
+        ensures { result ≡ command_of operation ++ 32 ∷ [] }
     {
-        let part = field_behind(operation, 0)?;
-        Some(Fields {
+        Fields {
             operation,
             numbers: ArrayVec::new(),
             part,
             bytes: Vec::new(alloc),
-        })
+        }
     }
 
     // One more byte of the line. Says whether the line may still be a request.
+    #[inline(never)]
     fn add(&mut self, byte: u8) -> Result<bool, NoMemory>
         ensures adds { IfOk result (λ goes. AddsByte self.old byte self.new goes) }
         ensures plain { IsPlain self.new }

@@ -5,10 +5,11 @@ ghost use Rattle.std.specs.List.{All};
 ghost use Rattle.items.specs.Text.{Takes};
 ghost use Rattle.script_text.specs.Requests.{request_in, request_of};
 ghost use Rattle.script_text.specs.Lines.{fields_of, heard_as, script_lines};
-ghost use Rattle.script_text.specs.Decoded.{AsksNothing};
+ghost use Rattle.request_form.specs.Operations.{HasWord};
+ghost use Rattle.script_text.specs.Decoded.{AsksNothing, IsFieldBehind, command_of};
 ghost use Rattle.script_text.specs.Begun.{IsLetter, begun_text, IsBegun};
 
-use crate::fields::Fields;
+use crate::fields::{Fields, Part, field_behind};
 use arrayvec::ArrayVec;
 use blob_model::Bytes;
 use items::lines::Body;
@@ -35,14 +36,23 @@ fn is_letter(byte: u8) -> bool
     byte.is_ascii_lowercase() || byte == b'-'
 }
 
-// The fields of a line whose first field is whole, if its command has any.
-fn asked(alloc: Global, word: &[u8]) -> Option<Fields>
+// What a whole first field asks for, and the field that begins behind it.
+#[derive(Clone, Copy)]
+struct Opening {
+    operation: Operation,
+    first: Part,
+}
+
+// What a line asks for whose first field is whole, if its command has any fields.
+fn opened(word: &[u8]) -> Option<Opening>
     requires { All IsLetter word.now }
     ensures { MatchOption result
         (AsksNothing (word.now ++ 32 ∷ []))
-        (λ text. text ≡ word.now ++ 32 ∷ []) }
+        (λ it. (command_of it.operation ≡ word.now) × HasWord it.operation word.now × IsFieldBehind it.operation 0 (Some it.first)) }
 {
-    Fields::of(alloc, Operation::of_word(word)?)
+    let operation = Operation::of_word(word)?;
+    let first = field_behind(operation, 0)?;
+    Some(Opening { operation, first })
 }
 
 // How many bytes come before the first that is no letter of a command.
@@ -88,10 +98,10 @@ fn take_part(alloc: Global, begun: &mut Begun, piece: &[u8]) -> Result<Option<us
             if piece[count] != b' ' {
                 return Ok(None);
             }
-            match asked(alloc, word.as_slice()) {
+            match opened(word.as_slice()) {
                 None => Ok(None),
-                Some(fields) => {
-                    *begun = Begun::Asked(fields);
+                Some(Opening { operation, first }) => {
+                    *begun = Begun::Asked(Fields::of(alloc, operation, first));
                     Ok(Some(count + 1))
                 }
             }

@@ -27,4 +27,4 @@ pub record IsAnswer {Item : Type 0} (talk : Talk Item) (session : talk.Session) 
   pub reply : talk.Reply
   pub answers : talk.Answers session item reply session'
   pub rose : RoseBy (talk.fault_count session' item reply) faults faults'
-  pub parts : IfOk said (λ parts. parts.head ++ parts.body ≡ talk.said reply)
+  pub parts : IfOk said (λ parts. parts.head.items ++ parts.body ≡ talk.said reply)

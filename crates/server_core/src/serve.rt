@@ -20,7 +20,7 @@ ghost use Rattle.server_core.specs.Conversed.{Conversed, Finished, end_read_faul
 
 // Writes a reply that was said, or holds it back.
 fn put<I: Sink>(said: Result<Said, NoMemory>, gathered: &mut Gathered, io: &mut I) -> Flow
-    ensures put { (text : List ℕ) → IfOk said (λ parts. parts.head ++ parts.body ≡ text)
+    ensures put { (text : List ℕ) → IfOk said (λ parts. parts.head.items ++ parts.body ≡ text)
         → IsPut gathered.old.bytes.items text (I.written io.old) gathered.new.bytes.items (I.written io.new) result }
     ensures given { I.given io.new ≡ I.given io.old }
     ensures left { I.left io.new ≡ I.left io.old }

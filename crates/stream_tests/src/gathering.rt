@@ -136,15 +136,14 @@ fn replies_to_many_lines_are_written_in_few_writes(rt: HostRuntime) {
     assert!(rt; writes as usize <= bytes / 131_072 + reads as usize);
 }
 
-// Checks what is done with a stream whose replies are so many thousand bytes long each, as heads or as bodies.
+// Checks what is done with a stream whose replies are so many thousand bytes long each.
 fn check_sizes<R: Abort + Wait + Threads + Sync>(
     rt: &R,
     alloc: Global,
     sizes: &[u8],
-    in_bodies: bool,
     expected: &[Act],
 ) {
-    let mut dialect = Sizes::new(alloc, in_bodies).expect(rt, "memory");
+    let mut dialect = Sizes::new(alloc).expect(rt, "memory");
     let script = sizes.to_vec(alloc).expect(rt, "memory");
     let io = acts_of(rt, alloc, &mut dialect, script, usize::MAX, End::InputEnd);
     check_acts(rt, &io, expected);
@@ -172,9 +171,9 @@ static AT_ONCE: [Act; 6] = [
 #[test]
 fn a_long_reply_is_written_by_itself(rt: HostRuntime) {
     let around = GATHERED_AROUND.as_slice();
-    check_sizes(&rt, rt.alloc(), &[1, 2, 200, 3, 4, 5], false, around);
+    check_sizes(&rt, rt.alloc(), &[1, 2, 200, 3, 4, 5], around);
     let at_once = AT_ONCE.as_slice();
-    check_sizes(&rt, rt.alloc(), &[200, 132, 131, 1], false, at_once);
+    check_sizes(&rt, rt.alloc(), &[200, 132, 131, 1], at_once);
 }
 
 // What was gathered before a long body goes out first.
@@ -187,7 +186,7 @@ static BODIES: [Act; 5] = [
 ];
 
 #[test]
-fn bodies_are_gathered_like_heads_unless_they_are_long(rt: HostRuntime) {
+fn bodies_are_gathered_unless_they_are_long(rt: HostRuntime) {
     let expected = BODIES.as_slice();
-    check_sizes(&rt, rt.alloc(), &[1, 16, 65, 200, 2, 3], true, expected);
+    check_sizes(&rt, rt.alloc(), &[1, 16, 65, 200, 2, 3], expected);
 }

@@ -96,7 +96,7 @@ impl Conversation for Lengths {
     fn answer<R: Wait + Threads + Sync>(&mut self, _rt: &R, item: u64) -> Result<Said, NoMemory> {
         self.greatest = self.greatest.max(item);
         let text = format!(in self.alloc; "{}\n", self.greatest)?;
-        Ok(Said::whole(self.alloc, Bytes::of(text.into_bytes())))
+        Ok(Said::of_body(Bytes::of(text.into_bytes())))
     }
 }
 

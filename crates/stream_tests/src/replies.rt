@@ -193,15 +193,15 @@ fn what_was_read_is_the_body_of_its_frame(rt: HostRuntime) {
 }
 
 #[test]
-fn each_other_reply_has_no_body(rt: HostRuntime) {
+fn a_line_is_all_body_and_each_other_frame_all_head(rt: HostRuntime) {
     let lines = ScriptDialect::new(rt.alloc()).expect(&rt, "memory");
     let bytes = bytes_of(&rt, rt.alloc(), b"\x00abz\xff");
     check_parts(
         &rt,
         &lines,
         Reply::Content { bytes },
-        b"data 0061627aff\n",
         b"",
+        b"data 0061627aff\n",
     );
     let frames = FrameDialect::new(rt.alloc()).expect(&rt, "memory");
     check_parts(&rt, &frames, Reply::Bye, b"\x00\x00\x00\x01\x8d", b"");

@@ -11,12 +11,11 @@ use std::marker::Model;
 // More bytes than there are in a test.
 const ROOM: usize = 64;
 
-/// A dialect in which each byte asks for a reply of that many thousand bytes, all of them its head or all its body. Contracts
-/// see the bytes that were fed and not answered by `next`.
+/// A dialect in which each byte asks for a reply of that many thousand bytes, all of them its body. Contracts see the bytes that
+/// were fed and not answered by `next`.
 #[derive(Drop)]
 pub(crate) struct Sizes {
     alloc: Global,
-    in_bodies: bool,
     rest: Chunk,
 }
 
@@ -29,13 +28,12 @@ impl Model for Sizes {
 }
 
 impl Sizes {
-    /// A dialect that was fed nothing, and whether its replies are bodies.
-    pub(crate) fn new(alloc: Global, in_bodies: bool) -> Result<Sizes, NoMemory>
+    /// A dialect that was fed nothing.
+    pub(crate) fn new(alloc: Global) -> Result<Sizes, NoMemory>
         ensures { IfOk result (λ sizes. sizes ≡ []) }
     {
         Ok(Sizes {
             alloc,
-            in_bodies,
             rest: Chunk::with_room(alloc, ROOM)?,
         })
     }
@@ -86,13 +84,6 @@ impl Dialect for Sizes {
     }
 
     fn say_in_parts(&self, reply: Reply) -> Result<Said, NoMemory> {
-        let bytes = self.say(&reply)?;
-        if self.in_bodies {
-            return Ok(Said {
-                head: Bytes::of(Vec::new(self.alloc)),
-                body: bytes,
-            });
-        }
-        Ok(Said::whole(self.alloc, bytes))
+        Ok(Said::of_body(self.say(&reply)?))
     }
 }

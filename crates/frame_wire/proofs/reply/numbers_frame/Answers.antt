@@ -8,12 +8,15 @@ pub loop-number-preserved : goal.loop-number-preserved
 loop-number-preserved c =
     let ns = c.args.numbers.now in
     let n = 1 + 8 * length ns in
-    c.in_ok-add.ensures
-    ∙ ap (λ (l : List ℕ). l ++ field (get_or ns c.loop-number.number-index 0)) c.loop-number.invariant
-    ∙ numbers_more n c.args.operation c.loop-number.number-index ns c.loop-number-test.true
+    let before = c.loop-number.invariant in (
+      c.add.ensures.front
+          ∙ ap (λ (l : List ℕ). l ++ field (get_or ns c.loop-number.number-index 0)) before.0
+          ∙ numbers_more n c.args.operation c.loop-number.number-index ns c.loop-number-test.true,
+      omega (arith, c.add.ensures.length, before.1),
+    )
 
 pub returns : goal.returns
 returns c =
     let ns = c.args.numbers.now in
     let all : c.loop-number.number-index ≡ length ns = omega arith in
-    c.loop-number.invariant ∙ ap (λ (i : ℕ). frame_part (1 + 8 * length ns) (c.args.operation ∷ fields (take i ns))) all ∙ framed_numbers c.args.operation ns
+    c.loop-number.invariant.0 ∙ ap (λ (i : ℕ). frame_part (1 + 8 * length ns) (c.args.operation ∷ fields (take i ns))) all ∙ framed_numbers c.args.operation ns

@@ -5,6 +5,6 @@ use Rattle.frame_wire.proofs.reply.range_frame.Goals as goal
 
 pub returns : goal.returns
 returns c =
-    c.in_ok-add-2.ensures
-    ∙ ap (λ (l : List ℕ). l ++ field c.args.size) (c.in_ok-add_wide.ensures ∙ ap (λ (l : List ℕ). l ++ wide_field c.args.end) (c.in_ok-add.ensures ∙ ap (λ (l : List ℕ). l ++ field 12) c.in_ok-frame.ensures))
+    c.add-2.ensures.front
+    ∙ ap (λ (l : List ℕ). l ++ field c.args.size) (c.add_wide.ensures.front ∙ ap (λ (l : List ℕ). l ++ wide_field c.args.end) (c.add.ensures.front ∙ ap (λ (l : List ℕ). l ++ field 12) c.begin-frame.ensures.front))
     ∙ framed_range c.args.end c.args.size

@@ -15,8 +15,8 @@ pub returns-else-not-is_full-clause-ok : goal.returns-else-not-is_full-clause-ok
 returns-else-not-is_full-clause-ok g c =
     let part = c.fill-count in
     let begun = rw c.in-Length.is at c.requires.begun in
-    rw c.in-Length.is (length_whole g.B.Body.framing g.B.Body.come _ c.args.piece.now c.counted.result part.result c.short_number.result (omega (arith, part.ensures.count, begun, c.requires.some)) (omega (arith, part.ensures.count))
-    c.counted.ensures.begun c.counted.ensures.bytes (c.short_number.ensures ∙ c.as_slice.ensures.value ∙ part.ensures.part))
+    rw c.in-Length.is (length_whole g.B.Body.framing g.B.Body.come _ c.args.piece.now c.counted-in-Length.result part.result c.short_number-in-Length.result (omega (arith, part.ensures.count, begun, c.requires.some)) (omega (arith, part.ensures.count))
+    c.counted-in-Length.ensures.begun c.counted-in-Length.ensures.bytes (c.short_number-in-Length.ensures ∙ c.as_slice.ensures.value ∙ part.ensures.part))
 
 pub returns-in-Counted-clause-ok : goal.returns-in-Counted-clause-ok
 returns-in-Counted-clause-ok g c =

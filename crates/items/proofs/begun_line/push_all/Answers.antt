@@ -1,6 +1,6 @@
 use Rattle.items.specs.BegunLine.{begun_text}
 use Rattle.items.proofs.LineTaken.{pushes_on}
-use Rattle.items.proofs.FrameTaken.{tail_is}
+use Rattle.items.proofs.Texts.{tail_is}
 use Rattle.items.proofs.begun_line.push_all.Goals as goal
 
 pub run-preserved : goal.run-preserved

@@ -1,6 +1,7 @@
 use Rattle.std.proofs.Common.{ℕ, List, ◌++◌, take, subst, length-drop, arith}
 use Rattle.items.specs.BegunFrame.{begun_bytes, GoesOnAs}
-use Rattle.items.proofs.FrameTaken.{goes_on_more, tail_is}
+use Rattle.items.proofs.Texts.{tail_is}
+use Rattle.items.proofs.FrameTaken.{goes_on_more}
 use Rattle.items.proofs.frame.take_parts.Goals as goal
 
 pub parts-preserved : goal.parts-preserved

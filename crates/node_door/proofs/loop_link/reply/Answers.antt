@@ -3,7 +3,8 @@ use Rattle.items.proofs.FramesHeard.{whole_is}
 use Rattle.page_node.specs.declared.form.NodeFault.TheVariants as Faults
 use Rattle.page_node.specs.declared.form.NodeReply.TheVariants as Replies
 use Rattle.node_door.proofs.Replies.{same_test}
-use Rattle.node_door.proofs.Looping.{replied_by, replied_as, item_long, item_empty, item_none, tail_is}
+use Rattle.items.proofs.Texts.{tail_is}
+use Rattle.node_door.proofs.Looping.{replied_by, replied_as, item_long, item_empty, item_none}
 use Rattle.node_door.proofs.loop_link.reply.Goals as goal
 use Rattle.node_door.proofs.loop_link.reply.Goals.{else-operation-eq13-via-then-operation-eq13+else-is_empty, else-operation-eq13-via-else-operation-eq13}
 

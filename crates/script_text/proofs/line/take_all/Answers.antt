@@ -1,5 +1,6 @@
 use Rattle.script_text.specs.Begun.{begun_text}
-use Rattle.script_text.proofs.TakenLemmas.{tail_is, takes_more, takes_none, takes_all}
+use Rattle.items.proofs.Texts.{tail_is}
+use Rattle.script_text.proofs.TakenLemmas.{takes_more, takes_none, takes_all}
 use Rattle.script_text.proofs.line.take_all.Goals as goal
 
 pub piece-preserved : goal.piece-preserved

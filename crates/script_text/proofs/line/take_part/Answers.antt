@@ -22,5 +22,5 @@ returns-in-None-clause-takes c =
 pub returns-in-Some-clause-takes : goal.returns-in-Some-clause-takes
 returns-in-Some-clause-takes c =
     let a = c.add_letters-count in
-    let behind = c.in-Some.ensures ∙ ap (λ (l : List ℕ). l ++ 32 ∷ []) c.as_slice.ensures.value in
+    let behind = c.of.ensures ∙ ap (λ (l : List ℕ). l ++ 32 ∷ []) (c.in-Some.ensures.0 ∙ c.as_slice.ensures.value) in
     rw c.in-Word.is (space_comes _ a.new.word.items c.args.piece.now _ a.result (omega (arith, c.if-count-piece.false, a.ensures.within)) a.ensures.word a.ensures.letters c.if-piece-count-ne32.false behind)

@@ -8,7 +8,7 @@ returns-in-Err-clause-put g c = λ text said. put_none c.args.gathered.now.bytes
 
 pub returns-in-Ok-clause-put : goal.returns-in-Ok-clause-put
 returns-in-Ok-clause-put g c = λ text said.
-    let parts : c.in-Ok.parts.head ++ c.in-Ok.parts.body ≡ text = rw c.in-Ok.is at said in
-    let joined : c.as_slice.result.now ++ c.as_slice-in-Ok.result.now ≡ text = ap₂ (λ (a b : List ℕ). a ++ b) c.as_slice.ensures c.as_slice-in-Ok.ensures ∙ parts in
+    let parts : c.in-Ok.parts.head.items ++ c.in-Ok.parts.body ≡ text = rw c.in-Ok.is at said in
+    let joined : c.as_slice.result.now ++ c.as_slice-in-Ok.result.now ≡ text = ap₂ (λ (a b : List ℕ). a ++ b) c.as_slice.ensures.value c.as_slice-in-Ok.ensures ∙ parts in
     subst (λ (x : List ℕ). IsPut c.args.gathered.now.bytes.items x (g.I.Ends.written c.args.io.now) c.put_reply.new.self.bytes.items (g.I.Ends.written c.put_reply.new.io) c.put_reply.result) joined
     c.put_reply.ensures.put

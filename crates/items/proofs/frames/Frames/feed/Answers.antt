@@ -1,4 +1,4 @@
-use Rattle.items.proofs.FrameTaken.{tail_is}
+use Rattle.items.proofs.Texts.{tail_is}
 use Rattle.items.proofs.FramesRead.{fed, fed_straight, none_left, as_added}
 use Rattle.items.proofs.frames.Frames.feed.Goals as goal
 

@@ -1,5 +1,5 @@
 use Rattle.items.proofs.LineTaken.{takes_on}
-use Rattle.items.proofs.FrameTaken.{tail_is}
+use Rattle.items.proofs.Texts.{tail_is}
 use Rattle.items.proofs.line.Line.take.Goals as goal
 
 pub piece-preserved : goal.piece-preserved

@@ -1,4 +1,4 @@
-use Rattle.items.proofs.FrameTaken.{tail_is}
+use Rattle.items.proofs.Texts.{tail_is}
 use Rattle.items.proofs.LinesRead.{fed, fed_straight}
 use Rattle.items.proofs.FramesRead.{none_left, as_added}
 use Rattle.items.proofs.lines.Lines.feed.Goals as goal

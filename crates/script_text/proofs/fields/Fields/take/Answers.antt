@@ -1,4 +1,5 @@
-use Rattle.script_text.proofs.TakenLemmas.{tail_is, takes_more, takes_none, takes_all}
+use Rattle.items.proofs.Texts.{tail_is}
+use Rattle.script_text.proofs.TakenLemmas.{takes_more, takes_none, takes_all}
 use Rattle.script_text.proofs.fields.Fields.take.Goals as goal
 
 pub piece-preserved : goal.piece-preserved
