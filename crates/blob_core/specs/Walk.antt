@@ -131,14 +131,7 @@ read_walk p w blob b version offset count =
 -- the bytes of a read's answer, none where the answer isn't the content
 abbrev pub content_in : Outcome → Option (List ℕ)
 content_in (Outcomes.Content bytes) = Some bytes
-content_in (Outcomes.Blob blob) = None
-content_in (Outcomes.Assigned version at size) = None
-content_in (Outcomes.Published version) = None
-content_in (Outcomes.Recent version size) = None
-content_in (Outcomes.Size size) = None
-content_in (Outcomes.Synced version) = None
-content_in (Outcomes.Status assigned' published' held') = None
-content_in (Outcomes.Refused refusal) = None
+content_in _ = None
 
 -- the bytes that a walk brings, none where the store refuses the read
 abbrev pub walked_in : ℕ → World → ℕ → ℕ → ℕ → ℕ → Option (List ℕ)

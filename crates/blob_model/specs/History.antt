@@ -43,14 +43,7 @@ store_of limits history = store_from (empty_store limits) history
 
 abbrev pub is_refused : Outcome → Bool
 is_refused (Outcomes.Refused refusal) = true
-is_refused (Outcomes.Blob blob) = false
-is_refused (Outcomes.Assigned version at size) = false
-is_refused (Outcomes.Published version) = false
-is_refused (Outcomes.Content bytes) = false
-is_refused (Outcomes.Recent version size) = false
-is_refused (Outcomes.Size size) = false
-is_refused (Outcomes.Synced version) = false
-is_refused (Outcomes.Status assigned' published' held') = false
+is_refused _ = false
 
 -- a finish names a numbered version that isn't 0
 abbrev pub IsNumbered : Option Blob → ℕ → Type 0
@@ -59,15 +52,9 @@ IsNumbered (Some b) version = (1 ≤ version) × (version ≤ assigned b)
 
 -- what a call asks of its caller: an update has a byte, and a finish names a numbered version
 abbrev pub MayCall : Store → Call → Type 0
-MayCall s Calls.Create = Unit {0}
 MayCall s (Calls.Assign blob place bytes) = 1 ≤ length bytes
 MayCall s (Calls.Finish blob version) = IsNumbered (blob_at s blob) version
-MayCall s (Calls.Branch blob version) = Unit {0}
-MayCall s (Calls.Read blob version offset count) = Unit {0}
-MayCall s (Calls.Recent blob) = Unit {0}
-MayCall s (Calls.Size blob version) = Unit {0}
-MayCall s (Calls.Sync blob version) = Unit {0}
-MayCall s (Calls.Status blob) = Unit {0}
+MayCall s _ = Unit {0}
 
 -- the event may come in that store, and isn't refused there
 pub record IsAccepted (s : Store) (e : Event) : Type 0 where
@@ -89,11 +76,7 @@ event_of caller Calls.Create = Events.Create caller ∷ []
 event_of caller (Calls.Assign blob place bytes) = Events.Assign caller blob place bytes ∷ []
 event_of caller (Calls.Finish blob version) = Events.Finish caller blob version ∷ []
 event_of caller (Calls.Branch blob version) = Events.Branch caller blob version ∷ []
-event_of caller (Calls.Read blob version offset count) = []
-event_of caller (Calls.Recent blob) = []
-event_of caller (Calls.Size blob version) = []
-event_of caller (Calls.Sync blob version) = []
-event_of caller (Calls.Status blob) = []
+event_of caller _ = []
 
 -- what a call adds to the history: its event where it isn't refused
 abbrev pub entered : Store → ℕ → Call → List Event

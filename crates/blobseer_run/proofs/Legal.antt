@@ -25,6 +25,7 @@ use Rattle.version_manager.specs.Desks.{updates_or_none, published_or_none}
 use Rattle.version_manager.specs.Folds.{IsInOrder, AreInOrder}
 use Rattle.version_manager.specs.Log.{IsHistory}
 use Rattle.version_manager.proofs.Orders.{IsEventInOrder, order_more, none_in_order}
+use Rattle.version_manager.proofs.Stores.{legal-append, in_blob_here, in_blob_none}
 use Rattle.request_form.specs.Session.{Fixed, Session, HeldTicket, IsNobody, store_at, sees, holds, ticket_at, without_ticket, drops, without_version, lets_go, takes_up_to}
 use Rattle.request_form.specs.Turns.{Tickets, Turn, with_tickets, and_made}
 use Rattle.request_form.specs.Answers.{AddTurn, ReadTurn, ReadManyTurn, FinishTurn, RepairTurn, UnnumberedTurn, StartTurn, StartedTurn, WholeTurn, UpdateAnswer, StartAnswer, WholeAnswer, FinishAnswer, LookAnswer, Unless, Folds, IsReady, update_fault, read_fault, ranges_fault, Answers}
@@ -40,24 +41,10 @@ use Rattle.blob_model.proofs.Marks.{AllEven, no_blobs, even_is, even_at, event_e
 use Rattle.blob_model.proofs.Stays.{store_from-append}
 use Rattle.workload_law.proofs.Later.{last_mark}
 
--- ---- histories that go on
-
-legal-append : (s : Store) (xs ys : List Event) → IsLegalFrom s xs → IsLegalFrom (store_from s xs) ys → IsLegalFrom s (xs ++ ys)
-legal-append s [] ys h k = k
-legal-append s (x ∷ xs) ys h k = (h.0, legal-append (answer s (caller_of x) (call_of x)).0 xs ys h.1 k)
-
--- ---- refused or not
-
-in_blob_here : (s : Store) (blob : ℕ) (b : Blob) (f : Blob → Answered) → blob_at s blob ≡ Some b → in_blob s blob f ≡ f b
-in_blob_here s blob b f h = ap (λ (o : Option Blob). let a : Answered = elim o [ None ↦ refuse s (Refusals.NoBlob blob) | Some x ↦ f x ] in a) h
-
-in_blob_none : (s : Store) (blob : ℕ) (f : Blob → Answered) → blob_at s blob ≡ None → in_blob s blob f ≡ refuse s (Refusals.NoBlob blob)
-in_blob_none s blob f h = ap (λ (o : Option Blob). let a : Answered = elim o [ None ↦ refuse s (Refusals.NoBlob blob) | Some x ↦ f x ] in a) h
+-- ---- an update that was numbered
 
 none_of_one : (s : Store) (a : Test) (done : Answered) → a.refuses ≡ false → unless_refused s (a ∷ []) done ≡ done
 none_of_one s a done p = rw p refl
-
--- ---- an update that was numbered
 
 record IsNumbering (s : Store) (caller blob : ℕ) (place : Place) (bytes : List ℕ) (version : ℕ) : Type 0 where
   b : Blob

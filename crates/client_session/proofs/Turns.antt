@@ -17,19 +17,17 @@ use Rattle.version_manager.specs.declared.fault.DeskFault.{DeskFault}
 use Rattle.version_manager.specs.declared.fault.DeskFault.TheVariants as DeskFaults
 use Rattle.version_manager.specs.declared.fault.OpenFault.{OpenFault}
 use Rattle.version_manager.specs.declared.look.Look.{Look}
-use Rattle.version_manager.specs.declared.look.Look.TheVariants as Looks
 use Rattle.version_manager.specs.Looks.{look_call}
 use Rattle.request_form.specs.Session.{Session, sees, outcome_at}
 use Rattle.request_form.specs.Replies.{reply_of}
 use Rattle.blob_model.specs.declared.call.Refusal.{Refusal}
 use Rattle.request_form.specs.Turns.{Turn, tells, refuses, AfterGap}
-use Rattle.request_form.specs.Answers.{Answers, Class, ClassAnswer, class_of}
+use Rattle.request_form.specs.Answers.{LookAnswer}
 use Rattle.request_form.specs.Replies.{fault_of}
 use Rattle.request_form.specs.declared.form.Fault.TheVariants as Faults
 use Rattle.request_form.specs.declared.form.Reply.{Reply}
 use Rattle.request_form.specs.declared.form.Reply.TheVariants as Replies
 use Rattle.client_session.specs.Tickets.{OpenUpdate}
-use Rattle.client_session.specs.Looks.{look_request}
 use Rattle.client_session.specs.Results.{desk_fault}
 use Rattle.client_session.specs.Sessions.{Went, session_at}
 
@@ -46,13 +44,6 @@ took others f v w Gives fixed log turned =
     let same : f' ≡ f = cc in
     let gives' : Gives (v.seen ++ gap) f w.seen = subst (λ (x : DeskFixed). Gives (v.seen ++ gap) x w.seen) same gives in
     record { gap = gap; others = others f v.seen gap v.caller (log (v.seen ++ gap) w.seen gives') lacks; gives = gives' }
-
--- the request of a look is of the class of looks
-class_is : (look : Look) (blob : ℕ) → Class.looks (look_call look blob) ≡ class_of (look_request look blob)
-class_is Looks.Recent blob = refl
-class_is (Looks.Size version) blob = refl
-class_is (Looks.Sync version) blob = refl
-class_is Looks.Status blob = refl
 
 module _ (f : DeskFixed) (caller : ℕ) (log log' : List (ℕ × Event)) where
   pub went_looked : (call : Call) (said : Outcome) → Took caller log log' (λ before after. Looked f call before caller said after) → Went f log log'
@@ -97,16 +88,13 @@ module _ (f : DeskFixed) (caller : ℕ) (log log' : List (ℕ × Event)) where
 
   -- a look
   pub looked : (look : Look) (blob : ℕ) (said : Outcome) (held : List OpenUpdate) (next limit : ℕ) → Took caller log log' (λ before after. Looked f (look_call look blob) before caller said after)
-      → Answers AllOther (session_at f caller log held next limit) (look_request look blob) (reply_of said) (session_at f caller log' held next limit)
-  looked look blob said held next limit t =
-      let P : Class → Type 0 = λ class. ClassAnswer AllOther (session_at f caller log held next limit) class (reply_of said) (session_at f caller log' held next limit) in
-      subst P (class_is look blob)
-      record {
-        others = events t.gap;
-        is_gap = t.others;
-        said = ap reply_of (t.gives.said_is ∙ sym (outcome_of_gap t.gap held next limit (look_call look blob)));
-        seen = seen_gap t.gap held next limit t.gives.same;
-      }
+      → LookAnswer AllOther (session_at f caller log held next limit) (look_call look blob) (reply_of said) (session_at f caller log' held next limit)
+  looked look blob said held next limit t = record {
+    others = events t.gap;
+    is_gap = t.others;
+    said = ap reply_of (t.gives.said_is ∙ sym (outcome_of_gap t.gap held next limit (look_call look blob)));
+    seen = seen_gap t.gap held next limit t.gives.same;
+  }
 
   -- A call that was not done: the store refused it, or no memory was found. Such turns may come.
   pub not_done : (call : Call) (held : List OpenUpdate) (next limit : ℕ) (May : List Event → Turn → Type 0)

@@ -15,5 +15,4 @@ pub mod Putting
 pub mod Bounds
 pub mod Losses
 pub mod Looking
-pub mod Looks
 pub mod Memory

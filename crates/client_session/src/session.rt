@@ -4,7 +4,7 @@ ghost use Rattle.faults.specs.Counts.{RoseBy};
 ghost use Rattle.blob_model.specs.History.{AllOther};
 ghost use Rattle.blob_model.specs.declared.call.Call.TheVariants as Calls;
 ghost use Rattle.request_form.specs.Replies.{reply_of, page_faults, fault_count};
-ghost use Rattle.request_form.specs.Answers.{Answers, max_read, max_update, max_update_greater};
+ghost use Rattle.request_form.specs.Answers.{Answers, LookAnswer, max_read, max_update, max_update_greater};
 ghost use Rattle.request_form.specs.declared.form.Request.TheVariants as Requests;
 ghost use Rattle.request_form.specs.declared.form.Reply.TheVariants as Replies;
 ghost use Rattle.request_form.specs.declared.form.Fault.TheVariants as Faults;
@@ -13,6 +13,7 @@ ghost use Rattle.range_log.specs.Updates.{extents};
 ghost use Rattle.range_log.specs.Visits.{visits};
 ghost use Rattle.version_manager.specs.Desks.{unopened_size};
 ghost use Rattle.version_manager.specs.Log.{outcome_in};
+ghost use Rattle.version_manager.specs.Looks.{look_call};
 ghost use Rattle.range_reader.specs.Ranges.{OverUpdates};
 ghost use Rattle.range_reader.specs.Faults.{PageFailedIn};
 ghost use Rattle.client_session.specs.Losses.{IfPageLost, LostInRead};
@@ -20,7 +21,6 @@ ghost use Rattle.client_session.specs.Memory.{IfNoMemory, IsTakenNow};
 ghost use Rattle.client_session.specs.Results.{desk_fault, told_of, opened_of, unread_fault, range_of, create_reply, branch_reply, read_reply};
 ghost use Rattle.client_session.specs.Opening.{Opening, IsOfStore, ReadsRange};
 ghost use Rattle.client_session.specs.Kept.{all_kept, has_opened, IsViewAmong, KeptAfter, Coming, ReadByKept};
-ghost use Rattle.client_session.specs.Looks.{look_request};
 ghost use Rattle.client_session.specs.Sessions.{IsPassOf, session_of, pass_of, Continues, visits_seen, NoStepIfRefused, IsSettled, AnswersAsPublished};
 
 use crate::held::Tickets;
@@ -326,7 +326,7 @@ impl<'a, D: Door, G: Gate> Session<'a, D, G> {
 
     /// What the store answers to that look at a blob. One turn. It takes no memory.
     pub fn look<R: Wait>(&mut self, rt: &R, blob: u64, look: Look) -> Outcome
-        ensures answers { Answers AllOther (session_of self.old) (look_request look blob) (reply_of result) (session_of self.new) }
+        ensures answers { LookAnswer AllOther (session_of self.old) (look_call look blob) (reply_of result) (session_of self.new) }
         ensures faults { RoseBy (fault_count (reply_of result)) (sum_by D.faults self.old.doors) (sum_by D.faults self.new.doors) }
         ensures goes_on { Continues self.old self.new }
         ensures rest { self.new ≡ record self.old { log = self.new.log; turns = self.new.turns } }

@@ -1,5 +1,5 @@
 -- A file session, and what it is answered: each line at the names and at the store, with what others did meanwhile.
-use Rattle.std.specs.Prelude.{◌≡◌, ◌⊎◌, ℕ, ◌+◌, ◌<◌, ◌≤◌, IfOk, IfErr, ◌==◌, if◌then◌else◌, List, [], ◌++◌, length, map, Option, Some, None, Result, Ok, Err}
+use Rattle.std.specs.Prelude.{◌≡◌, ◌⊎◌, ℕ, ◌+◌, ◌<◌, ◌≤◌, IfOk, IfErr, ◌==◌, if◌then◌else◌, List, [], ◌++◌, length, map, Bool, true, false, Option, Some, None, Result, Ok, Err}
 use Rattle.std.specs.List.{All}
 use Rattle.turn_lock.specs.History.{entries_by}
 use Rattle.blob_model.specs.History.{AllOther}
@@ -138,10 +138,10 @@ recent_reply blob (Replies.Refused fault) = Some (store_fault fault)
 recent_reply blob _ = None
 
 -- it is told of a last published version, or refused
-abbrev pub IsRecent : Reply → Type 0
-IsRecent (Replies.RecentIs version size) = Unit {0}
-IsRecent (Replies.Refused fault) = Unit {0}
-IsRecent _ = ⊥
+abbrev pub is_recent : Reply → Bool
+is_recent (Replies.RecentIs version size) = true
+is_recent (Replies.Refused fault) = true
+is_recent _ = false
 
 -- ---- lines on a file
 

@@ -1,9 +1,9 @@
 // What is said of what the names and the store told.
-ghost use Rattle.std.specs.Prelude.{◌≡◌, ℕ, Some, Ok, Err};
+ghost use Rattle.std.specs.Prelude.{◌≡◌, ℕ, true, Some, Ok, Err};
 ghost use Rattle.blob_model.specs.declared.call.Place.TheVariants.{Append};
 ghost use Rattle.request_form.specs.Replies.{reply_of};
 ghost use Rattle.client_session.specs.Results.{updated_reply, finish_reply, read_reply};
-ghost use Rattle.file_layer.specs.Files.{file_reply, recent_reply, store_fault, find_refused, enter_refused, list_reply, IsRecent};
+ghost use Rattle.file_layer.specs.Files.{file_reply, recent_reply, store_fault, find_refused, enter_refused, list_reply, is_recent};
 ghost use Rattle.file_layer.specs.Sessions.{said_of};
 ghost use Rattle.file_names.specs.Paths.{parent_of};
 ghost use Rattle.file_names.specs.declared.form.FileFault.TheVariants as FileFaults;
@@ -68,7 +68,7 @@ pub(crate) fn said_of_read(read: Result<Bytes, Fault>) -> FileReply
 
 // What is said of the last published version of a file's blob.
 pub(crate) fn said_of_recent(blob: u64, outcome: Outcome) -> FileReply
-    requires { IsRecent (reply_of outcome) }
+    requires { is_recent (reply_of outcome) ≡ true }
     ensures { recent_reply blob (reply_of outcome) ≡ Some result }
 {
     match outcome {
@@ -78,13 +78,7 @@ pub(crate) fn said_of_recent(blob: u64, outcome: Outcome) -> FileReply
             size,
         },
         Outcome::Refused(refusal) => said_of_fault(Fault::of(refusal)),
-        Outcome::Blob(_)
-        | Outcome::Assigned { .. }
-        | Outcome::Published(_)
-        | Outcome::Content(_)
-        | Outcome::Size(_)
-        | Outcome::Synced(_)
-        | Outcome::Status { .. } => unreachable!(),
+        _ => unreachable!(),
     }
 }
 

@@ -23,15 +23,16 @@ framed_numbers operation ns =
     ap (λ (l : List ℕ). frame_part (1 + 8 * length ns) (operation ∷ fields l)) (take_all (length ns) ns (omega arith))
     ∙ framed_is (1 + 8 * length ns) (operation ∷ fields ns) (let l = fields-length ns in omega arith)
 
-pub framed_bytes : (operation : ℕ) (bytes : List ℕ) → frame_part (1 + length bytes) (operation ∷ []) ++ bytes ≡ frame_of (operation ∷ bytes)
-framed_bytes operation bytes = frame_part-append (1 + length bytes) (operation ∷ []) bytes ∙ framed_is (1 + length bytes) (operation ∷ bytes) (omega arith)
+-- bytes behind a frame's front
+pub framed_bytes : (operation count : ℕ) (bytes : List ℕ) → length bytes ≡ count → frame_part (1 + count) (operation ∷ []) ++ bytes ≡ frame_of (operation ∷ bytes)
+framed_bytes operation count bytes e = frame_part-append (1 + count) (operation ∷ []) bytes ∙ framed_is (1 + count) (operation ∷ bytes) (omega (arith, e))
 
-pub framed_range : (end size : ℕ) → ((frame_part 33 (255 ∷ []) ++ field 12) ++ wide_field end) ++ field size ≡ frame_of (255 ∷ (field 12 ++ (wide_field end ++ field size)))
-framed_range end size =
-    append_assoc (frame_part 33 (255 ∷ []) ++ field 12) (wide_field end) (field size)
-    ∙ append_assoc (frame_part 33 (255 ∷ [])) (field 12) (wide_field end ++ field size)
-    ∙ frame_part-append 33 (255 ∷ []) (field 12 ++ (wide_field end ++ field size))
-    ∙ framed_is 33 (255 ∷ (field 12 ++ (wide_field end ++ field size)))
-    (let a = length-append (field 12) (wide_field end ++ field size) in
+pub framed_range : (refusal end size : ℕ) → ((frame_part 33 (255 ∷ []) ++ field refusal) ++ wide_field end) ++ field size ≡ frame_of (255 ∷ (field refusal ++ (wide_field end ++ field size)))
+framed_range refusal end size =
+    append_assoc (frame_part 33 (255 ∷ []) ++ field refusal) (wide_field end) (field size)
+    ∙ append_assoc (frame_part 33 (255 ∷ [])) (field refusal) (wide_field end ++ field size)
+    ∙ frame_part-append 33 (255 ∷ []) (field refusal ++ (wide_field end ++ field size))
+    ∙ framed_is 33 (255 ∷ (field refusal ++ (wide_field end ++ field size)))
+    (let a = length-append (field refusal) (wide_field end ++ field size) in
     let b = length-append (wide_field end) (field size) in
-    let x = field-length 12 in let y = wide_field-length end in let z = field-length size in omega arith)
+    let x = field-length refusal in let y = wide_field-length end in let z = field-length size in omega arith)

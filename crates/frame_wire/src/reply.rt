@@ -1,33 +1,10 @@
-ghost use Rattle.std.specs.Prelude.{◌≡◌, ◌≤◌, ◌∷◌, ◌++◌, length, IfOk};
-ghost use Rattle.frame_wire.specs.Said.{field, wide_field, fields, frame_of, fault_fields, said, IsShort};
+ghost use Rattle.std.specs.Prelude.{◌≡◌, ◌∷◌, ◌++◌, IfOk};
+ghost use Rattle.frame_wire.specs.Said.{frame_of, fault_fields, said, IsShort};
 
-use crate::head::{Head, add, add_wide, begin};
+use crate::head::{Head, front, numbers_frame, range_frame};
 use blob_model::Bytes;
 use request_form::{Fault, Reply, Said};
 use std::alloc::{AllocError, Global};
-
-// The frame of an operation and numbers.
-fn numbers_frame(operation: u8, numbers: &[u64]) -> Head
-    requires { length numbers.now ≤ 4 }
-    ensures { result.items ≡ frame_of (operation ∷ fields numbers.now) }
-{
-    let mut frame = begin(1 + 8 * numbers.len() as u32, operation);
-    for number in numbers {
-        add(&mut frame, *number);
-    }
-    frame
-}
-
-// The frame of the one refusal with a number of 16 bytes.
-fn range_frame(end: u128, size: u64) -> Head
-    ensures { result.items ≡ frame_of (255 ∷ (field 12 ++ (wide_field end ++ field size))) }
-{
-    let mut frame = begin(33, 255);
-    add(&mut frame, 12);
-    add_wide(&mut frame, end);
-    add(&mut frame, size);
-    frame
-}
 
 // A refusal's frame.
 fn fault_frame(fault: &Fault) -> Head
@@ -47,7 +24,7 @@ fn fault_frame(fault: &Fault) -> Head
         Fault::NoMemory => numbers_frame(255, &[9]),
         Fault::EmptyUpdate => numbers_frame(255, &[10]),
         Fault::UpdateTooLong { length } => numbers_frame(255, &[11, length]),
-        Fault::RangePastSize { end, size } => range_frame(end, size),
+        Fault::RangePastSize { end, size } => range_frame(12, end, size),
         Fault::NoTicket { ticket } => numbers_frame(255, &[13, ticket]),
         Fault::TooManyTickets => numbers_frame(255, &[14, 64]),
         Fault::PageFault { page } => numbers_frame(255, &[15, page]),
@@ -68,7 +45,7 @@ fn content_head(operation: u8, bytes: &[u8]) -> Result<Head, AllocError>
     if bytes.len() >= u32::MAX as usize {
         return Err(AllocError);
     }
-    Ok(begin(1 + bytes.len() as u32, operation))
+    Ok(front(operation, bytes.len() as u32))
 }
 
 // The frame of a reply that gives no bytes of a blob.

@@ -1,3 +1,2 @@
 mod Worked
-mod Framed
 mod Served

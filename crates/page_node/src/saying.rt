@@ -1,7 +1,6 @@
 //! How what a node is asked is framed, and what it answers. The frames of this module stand in place, and take no memory.
 ghost use Rattle.std.specs.Prelude.{◌≡◌, ℕ, ◌+◌, ◌<◌, ◌≤◌, ◌^◌, ◌∷◌, ◌++◌, [], List, length, IfOk};
-ghost use Rattle.frame_wire.specs.Said.{field, wide_field, frame_of};
-ghost use Rattle.items.specs.BegunFrame.{frame_part};
+ghost use Rattle.frame_wire.specs.Said.{field, frame_of};
 ghost use Rattle.page_node.specs.Said.{said, asked, fault_fields};
 ghost use Rattle.page_node.specs.declared.form.NodeRequest.TheVariants as Requests;
 ghost use Rattle.page_node.specs.declared.form.NodeReply.TheVariants as Replies;
@@ -11,7 +10,7 @@ use crate::form::{NodeFault, NodeReply};
 use blob_model::Bytes;
 use faults::NoMemory;
 pub use frame_wire::head::Head;
-use frame_wire::head::{add, add_wide, begin};
+use frame_wire::head::{front, numbers_frame, range_frame};
 use request_form::Said;
 use std::alloc::Global;
 
@@ -20,30 +19,14 @@ fn number_frame(operation: u8, number: u64) -> Head
     ensures frame { result.items ≡ frame_of (operation ∷ field number) }
     ensures length { length result.items ≡ 13 }
 {
-    let mut front = begin(9, operation);
-    add(&mut front, number);
-    front
+    numbers_frame(operation, &[number])
 }
 
 // The frame of a refusal with one number.
 fn refusal_frame(refusal: u64, number: u64) -> Head
     ensures { result.items ≡ frame_of (255 ∷ (field refusal ++ field number)) }
 {
-    let mut front = begin(17, 255);
-    add(&mut front, refusal);
-    add(&mut front, number);
-    front
-}
-
-// The frame of the refusal with a number of 16 bytes.
-fn past_page_frame(end: u128, length: u64) -> Head
-    ensures { result.items ≡ frame_of (255 ∷ (field 24 ++ (wide_field end ++ field length))) }
-{
-    let mut front = begin(33, 255);
-    add(&mut front, 24);
-    add_wide(&mut front, end);
-    add(&mut front, length);
-    front
+    numbers_frame(255, &[refusal, number])
 }
 
 /// A refusal's frame.
@@ -55,7 +38,7 @@ pub fn fault_frame(fault: &NodeFault) -> Head
         NodeFault::EmptyUpdate => number_frame(255, 10),
         NodeFault::UpdateTooLong { length } => refusal_frame(11, length),
         NodeFault::NoPage { id } => refusal_frame(23, id),
-        NodeFault::PastPage { end, length } => past_page_frame(end, length),
+        NodeFault::PastPage { end, length } => range_frame(24, end, length),
         NodeFault::FrameTooLong { length } => refusal_frame(18, length),
         NodeFault::BadFrame => number_frame(255, 19),
     }
@@ -81,7 +64,7 @@ pub fn kept_frame(id: u64) -> Head
 pub fn bye_frame() -> Head
     ensures { result.items ≡ said Replies.Bye }
 {
-    begin(1, 141)
+    numbers_frame(141, &[])
 }
 
 /// The front of the reply that gives so many bytes, which stand behind it.
@@ -89,7 +72,7 @@ pub fn given_front(count: u32) -> Head
     requires { count + 1 < 2 ^ 32 }
     ensures { (bytes : List ℕ) → length bytes ≡ count → result.items ++ bytes ≡ said (Replies.Given bytes) }
 {
-    begin(1 + count, 161)
+    front(161, count)
 }
 
 /// The front of the frame that puts a page of so many bytes, which stand behind it.
@@ -97,18 +80,14 @@ pub fn put_front(count: u32) -> Head
     requires { count + 1 < 2 ^ 32 }
     ensures { (bytes : List ℕ) → length bytes ≡ count → result.items ++ bytes ≡ asked (Requests.Put bytes) }
 {
-    begin(1 + count, 32)
+    front(32, count)
 }
 
 /// The frame that asks for `length` bytes of the page with that id, from byte `from` on.
 pub fn get_frame(id: u64, from: u64, length: u64) -> Head
     ensures { result.items ≡ asked (Requests.Get id from length) }
 {
-    let mut front = begin(25, 33);
-    add(&mut front, id);
-    add(&mut front, from);
-    add(&mut front, length);
-    front
+    numbers_frame(33, &[id, from, length])
 }
 
 // The frame of given bytes, which are its body as they are.

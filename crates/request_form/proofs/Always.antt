@@ -93,15 +93,8 @@ refusal_mild (Refusals.RangePastSize end size) = (refl, refl)
 refusal_mild (Refusals.Pending version held) = (refl, refl)
 
 outcome_mild : (o : Outcome) → (fault_count (reply_of o) ≡ 0) × (starves (reply_of o) ≡ false)
-outcome_mild (Outcomes.Blob blob) = (refl, refl)
-outcome_mild (Outcomes.Assigned version at size) = (refl, refl)
-outcome_mild (Outcomes.Published published) = (refl, refl)
-outcome_mild (Outcomes.Content bytes) = (refl, refl)
-outcome_mild (Outcomes.Recent version size) = (refl, refl)
-outcome_mild (Outcomes.Size size) = (refl, refl)
-outcome_mild (Outcomes.Synced version) = (refl, refl)
-outcome_mild (Outcomes.Status assigned published held) = (refl, refl)
 outcome_mild (Outcomes.Refused r) = refusal_mild r
+outcome_mild _ = (refl, refl)
 
 abbrev MildIf : Option Fault → Type 0
 MildIf o = IfSome o IsMild

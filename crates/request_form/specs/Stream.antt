@@ -7,6 +7,10 @@ use Rattle.request_form.specs.declared.form.Heard.TheVariants.{Asked, Wrong}
 use Rattle.request_form.specs.Replies.{page_faults}
 pub use Rattle.items.specs.Items.{after_item, IsFed}
 
+-- the most bytes of a reply's head
+abbrev pub max_head : ℕ
+max_head = 37
+
 -- a stream of requests, and of what is none
 abbrev pub Stream : Type 0
 Stream = ItemStream Heard

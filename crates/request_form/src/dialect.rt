@@ -20,11 +20,12 @@ pub struct Said {
 }
 
 impl Said {
-    ghost use Rattle.std.specs.Prelude.{◌≡◌, ◌++◌, []};
+    ghost use Rattle.std.specs.Prelude.{◌≡◌, []};
 
     /// A reply that is no more than a head. Takes no memory.
     pub fn of_head(alloc: Global, head: Head) -> Said
-        ensures { result.head.items ++ result.body ≡ head.items }
+        ensures head { result.head ≡ head }
+        ensures body { result.body ≡ [] }
     {
         Said {
             head,
@@ -34,7 +35,8 @@ impl Said {
 
     /// A reply that is no more than a body.
     pub fn of_body(body: Bytes) -> Said
-        ensures { result.head.items ++ result.body ≡ body }
+        ensures head { result.head.items ≡ [] }
+        ensures body { result.body ≡ body }
     {
         Said {
             head: Head::new(),

@@ -123,6 +123,12 @@ impl Gathered {
         ensures ends { I.ends io.new ≡ I.ends io.old }
         ensures objects { I.objects io.new ≡ I.objects io.old }
     {
+        if head.is_empty() {
+            return self.put(io, body);
+        }
+        if body.is_empty() {
+            return self.put(io, head);
+        }
         match self.put(io, head) {
             Flow::Goes => self.put(io, body),
             Flow::Quits => unreachable!(),

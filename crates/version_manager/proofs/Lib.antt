@@ -7,7 +7,6 @@ pub mod Desks
 pub mod NewBlobs
 pub mod Numbering
 pub mod Finishing
-pub mod Looking
 pub mod Houses
 pub mod Hints
 pub mod Results

@@ -10,11 +10,15 @@ use Rattle.blob_model.specs.declared.call.Call.{Call}
 use Rattle.blob_model.specs.declared.call.Call.TheVariants as Calls
 use Rattle.blob_model.specs.declared.call.Event.{Event}
 use Rattle.blob_model.specs.declared.call.Outcome.{Outcome}
+use Rattle.blob_model.specs.declared.call.Outcome.TheVariants as Outcomes
 use Rattle.blob_model.specs.declared.call.Refusal.{Refusal}
 use Rattle.blob_model.specs.declared.call.Refusal.TheVariants as Refusals
 use Rattle.blob_model.proofs.Stays.{store_from-append}
+use Rattle.version_manager.specs.declared.look.Look.{Look}
+use Rattle.version_manager.specs.declared.look.Look.TheVariants as Looks
+use Rattle.version_manager.specs.Looks.{look_call}
 
-legal-append : (s : Store) (xs ys : List Event) → IsLegalFrom s xs → IsLegalFrom (store_from s xs) ys → IsLegalFrom s (xs ++ ys)
+pub legal-append : (s : Store) (xs ys : List Event) → IsLegalFrom s xs → IsLegalFrom (store_from s xs) ys → IsLegalFrom s (xs ++ ys)
 legal-append s [] ys h k = k
 legal-append s (x ∷ xs) ys h k = (h.0, legal-append (answer s (caller_of x) (call_of x)).0 xs ys h.1 k)
 
@@ -39,6 +43,11 @@ in_blob_here s blob b f h = ap (λ (o : Option Blob). let a : Answered = elim o 
 pub in_blob_none : (s : Store) (blob : ℕ) (f : Blob → Answered) → blob_at s blob ≡ None → in_blob s blob f ≡ refuse s (Refusals.NoBlob blob)
 in_blob_none s blob f h = ap (λ (o : Option Blob). let a : Answered = elim o [ None ↦ refuse s (Refusals.NoBlob blob) | Some x ↦ f x ] in a) h
 
+-- a look at a blob that isn't there
+pub look_none : (look : Look) (s : Store) (caller blob : ℕ) → blob_at s blob ≡ None → (answer s caller (look_call look blob)).1 ≡ Outcomes.Refused (Refusals.NoBlob blob)
+look_none Looks.Recent s caller blob none = rw (none, in_blob)
+look_none _ s caller blob none = rw (none, in_blob)
+
 -- ---- the limits stay
 unless_limits : (s : Store) (o : Option Refusal) (done : Answered) → done.0.limits ≡ s.limits → (let a : Answered = elim o [ Some r ↦ refuse s r | None ↦ done ] in a).0.limits ≡ s.limits
 unless_limits s (Some r) done e = refl
@@ -55,10 +64,9 @@ answer_limits s caller (Calls.Assign blob place bytes) = in_blob_limits s blob (
 answer_limits s caller (Calls.Finish blob version) = in_blob_limits s blob (blob_at s blob) _ (λ b. unless_limits s _ _ refl)
 answer_limits s caller (Calls.Branch blob version) = in_blob_limits s blob (blob_at s blob) _ (λ b. unless_limits s _ _ refl)
 answer_limits s caller (Calls.Read blob version offset count) = in_blob_limits s blob (blob_at s blob) _ (λ b. unless_limits s _ _ refl)
-answer_limits s caller (Calls.Recent blob) = in_blob_limits s blob (blob_at s blob) _ (λ b. refl)
 answer_limits s caller (Calls.Size blob version) = in_blob_limits s blob (blob_at s blob) _ (λ b. unless_limits s _ _ refl)
 answer_limits s caller (Calls.Sync blob version) = in_blob_limits s blob (blob_at s blob) _ (λ b. unless_limits s _ _ refl)
-answer_limits s caller (Calls.Status blob) = in_blob_limits s blob (blob_at s blob) _ (λ b. refl)
+answer_limits s caller _ = in_blob_limits s _ (blob_at s _) _ (λ b. refl)
 
 from_limits : (s : Store) (h : List Event) → (store_from s h).limits ≡ s.limits
 from_limits s [] = refl

@@ -109,14 +109,7 @@ most_bytes = 16777216
 -- the refusal that an outcome is, if it is one
 abbrev pub refusal_in : Outcome → Option Refusal
 refusal_in (Outcomes.Refused refusal) = Some refusal
-refusal_in (Outcomes.Blob blob) = None
-refusal_in (Outcomes.Assigned version at size) = None
-refusal_in (Outcomes.Published version) = None
-refusal_in (Outcomes.Content bytes) = None
-refusal_in (Outcomes.Recent version size) = None
-refusal_in (Outcomes.Size size) = None
-refusal_in (Outcomes.Synced version) = None
-refusal_in (Outcomes.Status assigned published held) = None
+refusal_in _ = None
 
 -- a fact on the refusal, where the call was refused
 abbrev pub OnRefused : DeskFault → (Refusal → Type 0) → Type 0

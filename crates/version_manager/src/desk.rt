@@ -1,6 +1,6 @@
 // The blobs of a store and its history.
 ghost use Rattle.std.specs.Prelude.{◌≡◌, ◌≢◌, ℕ, ◌+◌, ◌-◌, ◌^◌, ◌<◌, ◌≤◌, true, false, List, [], ◌∷◌, ◌++◌, Some, None};
-ghost use Rattle.std.specs.Prelude.{length, map, MatchOption, IfOk, IfErr, OnOk, OnErr, vec_len, vec_capacity};
+ghost use Rattle.std.specs.Prelude.{length, map, MatchOption, IfOk, IfErr, OnOk, OnErr, vec_len};
 ghost use Rattle.std.specs.Arc.{arc_value};
 ghost use Rattle.page_store.specs.Stored.{bytes_of_pages, LieAmong};
 ghost use Rattle.node_store.specs.UpdateRows.{IsRowIn};
@@ -23,6 +23,7 @@ ghost use Rattle.version_manager.specs.Origins.{LieUnderOrigins};
 use crate::blob::{branch_in, first_in, refusal_of_update, ticket_again, ticket_over};
 use crate::entry::{Change, Entry};
 use crate::fault::{DeskFault, OpenFault};
+use crate::history::History;
 use crate::look::Look;
 use crate::looks::{look_in, snapshot_in, unfinishable};
 use crate::waiting::{BlobWindow, WaitingUpdate};
@@ -37,9 +38,6 @@ use std::marker::Model;
 use std::sync::Arc;
 use tree_geom::PageSize;
 
-// The most entries of a history.
-const MAX_ENTRIES: u64 = (1 << 38) - 1;
-
 /// The blobs of a store, and the history of all changes that it accepted, in order, each with its caller.
 ///
 /// The history is legal, and the blobs are what it leaves. A call that is refused, and one that finds no memory, leaves the
@@ -52,7 +50,7 @@ pub struct Desk {
     page_size: PageSize,
     houses: Arc<Houses>,
     nodes: Arc<NodeHouse>,
-    history: Vec<Entry>,
+    history: History,
     windows: Vec<BlobWindow>,
 }
 
@@ -85,11 +83,11 @@ impl Model for Desk {
       page_size = d.page_size;
       houses = arc_value d.houses;
       nodes = arc_value d.nodes;
-      history = map event_of d.history.items;
+      history = map event_of d.history.entries;
       windows = numbered_of d.windows.items;
     } };
 
-    ghost invariant = { λ d. IsDesk d.limits d.page_size (arc_value d.houses) (arc_value d.nodes) (map event_of d.history.items) d.windows.items };
+    ghost invariant = { λ d. IsDesk d.limits d.page_size (arc_value d.houses) (arc_value d.nodes) (map event_of d.history.entries) d.windows.items };
 }
 
 impl Desk {
@@ -110,7 +108,7 @@ impl Desk {
             page_size: p,
             houses: Arc::try_clone(houses)?,
             nodes: Arc::try_clone(nodes)?,
-            history: Vec::new(alloc),
+            history: History::new(alloc),
             windows: Vec::new(alloc),
         })
     }
@@ -139,7 +137,7 @@ impl Desk {
         ensures count { result ≡ length self.now.history }
         ensures short { result < 2 ^ 38 }
     {
-        self.history.len() as u64
+        self.history.count()
     }
 
     /// The page size of all blobs.
@@ -213,7 +211,7 @@ impl Desk {
         let Ok((pages, kept)) = shared_twice(pages) else {
             return Err(DeskFault::NoMemory);
         };
-        let Ok(()) = make_room(&mut self.history) else {
+        let Ok(()) = self.history.make_room() else {
             return Err(DeskFault::NoMemory);
         };
         let update = WaitingUpdate {
@@ -262,7 +260,7 @@ impl Desk {
         if let Some(refusal) = unfinishable(window, version) {
             return Err((DeskFault::Refused(refusal), row));
         }
-        let Ok(()) = make_room(&mut self.history) else {
+        let Ok(()) = self.history.make_room() else {
             return Err((DeskFault::NoMemory, row));
         };
         match self.windows[index].finish(version, row) {
@@ -448,33 +446,20 @@ fn shared_twice(pages: &Arc<Pages>) -> Result<(Arc<Pages>, Arc<Pages>), NoMemory
     Ok((first, second))
 }
 
-// Room for one entry more, where the history may have one.
-fn make_room(history: &mut Vec<Entry>) -> Result<(), NoMemory>
-    ensures items { history.new.items ≡ history.old.items }
-    ensures short { OnOk result (length history.old.items + 1 < 2 ^ 38) }
-    ensures room { OnOk result (vec_len history.new < vec_capacity history.new) }
-{
-    if history.len() as u64 >= MAX_ENTRIES {
-        return Err(NoMemory);
-    }
-    history.reserve(1)?;
-    Ok(())
-}
-
 // Adds the window of a new blob, and the entry of its making.
 fn add(
-    history: &mut Vec<Entry>,
+    history: &mut History,
     windows: &mut Vec<BlobWindow>,
     entry: Entry,
     window: BlobWindow,
 ) -> Result<(), NoMemory>
-    ensures history { OnOk result (history.new.items ≡ history.old.items ++ entry ∷ []) }
+    ensures history { OnOk result (history.new.entries ≡ history.old.entries ++ entry ∷ []) }
     ensures windows { OnOk result (windows.new.items ≡ windows.old.items ++ window ∷ []) }
-    ensures same_history { OnErr result (history.new.items ≡ history.old.items) }
+    ensures same_history { OnErr result (history.new.entries ≡ history.old.entries) }
     ensures same_windows { OnErr result (windows.new.items ≡ windows.old.items) }
-    ensures short { OnOk result (length history.old.items + 1 < 2 ^ 38) }
+    ensures short { OnOk result (length history.old.entries + 1 < 2 ^ 38) }
 {
-    make_room(history)?;
+    history.make_room()?;
     windows.push(window)?;
     history.push_reserved(entry);
     Ok(())

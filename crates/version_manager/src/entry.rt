@@ -1,8 +1,7 @@
-// The stored history.
+// An entry of the stored history.
 
 use blob_model::Place;
 use page_store::Pages;
-use std::marker::Model;
 use std::sync::Arc;
 
 /// One accepted change, with its caller. A numbering keeps the stored pages of its update and no bytes.

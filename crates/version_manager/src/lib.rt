@@ -29,6 +29,7 @@ mod blob;
 mod desk;
 mod entry;
 mod fault;
+mod history;
 mod journal;
 pub mod laws;
 mod look;

@@ -8,8 +8,7 @@ use Rattle.blob_model.specs.declared.call.Outcome.TheVariants as Outcomes
 use Rattle.publisher.specs.Windows.{with_finished}
 use Rattle.version_manager.specs.Desks.{OnNoMemory, store_now, outcome_now, windows_with, window_in}
 use Rattle.version_manager.proofs.Finishing.{finish_goes}
-use Rattle.version_manager.proofs.Looking.{on_no_memory}
-use Rattle.version_manager.proofs.Results.{if_err}
+use Rattle.version_manager.proofs.Results.{if_err, on_no_memory}
 use Rattle.version_manager.proofs.Turns.{adds, changed, fixed_stays, finishes, ticket_here, row_here, order_here}
 use Rattle.version_manager.proofs.acts.FinishActDesk.act.Goals as goal
 

@@ -25,7 +25,7 @@ use Rattle.version_manager.proofs.Desks.{IsAt, at_index, short_yet}
 use Rattle.version_manager.proofs.Hints.{has_hints}
 use Rattle.version_manager.proofs.Houses.{AreRowsIn, numbered_in}
 use Rattle.version_manager.proofs.Keeping.{lies_at, under_at, desk_changed}
-use Rattle.version_manager.proofs.Looking.{on_no_memory}
+use Rattle.version_manager.proofs.Results.{on_no_memory}
 use Rattle.version_manager.proofs.Numbering.{numbered_event, is_ticket, is_unfinished, assign_fault, assign_outcome, assign_keeps, assign_there, even_of}
 use Rattle.version_manager.proofs.Origins.{numbered_under, version_under}
 use Rattle.version_manager.proofs.Waits.{list_stays, numbered_own, numbered_wait}
@@ -100,7 +100,7 @@ invariant_of-self-2 c =
     let d = c.self.inside in
     let houses = arc_value d.houses in
     let nodes = arc_value d.nodes in
-    let h = map event_of d.history.items in
+    let h = map event_of d.history.entries in
     let blob = c.args.blob in
     let q = arc_value c.args.pages.now in
     let bytes = bytes_of_pages q.pages in
@@ -126,13 +126,13 @@ invariant_of-self-2 c =
     (subst (λ (v : Numbered). Keeps d.limits v (and_update b u)) (sym seen) (c.in-Ok.ensures.kept b u x.keeps refl refl)) waits (ap (λ (v : Numbered). v.blob) is ∙ y.id) (ap (λ (v : Numbered). v.page_size) is ∙ y.page) in
     let entry : Entry = record { caller = c.args.caller; change = Changes.Assign blob c.args.place c.in-Ok-shared_twice.pages } in
     let e : Event = Events.Assign c.args.caller blob c.args.place bytes in
-    let pushed = c.push_reserved.ensures.items ∙ ap (λ (l : List Entry). l ++ entry ∷ []) c.make_room.ensures.items in
+    let pushed = c.push_reserved.ensures ∙ ap (λ (l : List Entry). l ++ entry ∷ []) c.make_room.ensures.entries in
     desk_changed c.self.invariant _ e blob c.in-Some.index after
-    (numbered_event d.history.items c.make_room.new.history.items c.push_reserved.new.self.items c.args.caller blob c.args.place c.in-Ok-shared_twice.pages _ c.make_room.ensures.items c.push_reserved.ensures.items c.in-Ok-shared_twice.ensures.0)
+    (numbered_event d.history.entries c.make_room.new.self.entries c.push_reserved.new.self.entries c.args.caller blob c.args.place c.in-Ok-shared_twice.pages _ c.make_room.ensures.entries c.push_reserved.ensures c.in-Ok-shared_twice.ensures.0)
     x.at x.some refl keeps
     (subst (λ (v : Numbered). AreRowsIn nodes houses v) (sym is) (numbered_in nodes houses w.numbered touch (lies_at c.self.invariant blob c.in-Some.index w y)))
     (subst (λ (v : Numbered). AreUnder (parents_of h) blob v.rows) (sym is) (numbered_under (parents_of h) blob w.numbered touch (under_at c.self.invariant blob c.in-Some.index w y)))
-    (short_yet d.history.items c.push_reserved.new.self.items entry pushed c.in-Ok-make_room.ensures.short) tt
+    (short_yet d.history.entries c.push_reserved.new.self.entries entry pushed c.in-Ok-make_room.ensures.short) tt
 
 pub returns-clause-assigned : goal.returns-clause-assigned
 returns-clause-assigned c =
@@ -166,7 +166,7 @@ returns-clause-numbering c =
 -- the blob, once the update is entered
 entered : (c : After-push_reserved) → let x = at_index c.self.invariant.kept
     c.args.blob c.in-Some.index _ c.index-window.result.now c.self.inside.windows.ok.0 c.in-Some.ensures c.index-window.ensures in
-    blob_at (store_of c.self.inside.limits (map event_of c.push_reserved.new.self.items)) c.args.blob
+    blob_at (store_of c.self.inside.limits (map event_of c.push_reserved.new.self.entries)) c.args.blob
     ≡ Some (and_update x.found.b record { caller = c.args.caller; place = c.args.place; bytes = bytes_of_pages (arc_value c.args.pages.now).pages })
 entered c =
     let d = c.self.inside in
@@ -174,7 +174,7 @@ entered c =
     let bytes = bytes_of_pages (arc_value c.args.pages.now).pages in
     let x = at_index c.self.invariant.kept blob c.in-Some.index _ c.index-window.result.now d.windows.ok.0 c.in-Some.ensures
     c.index-window.ensures in
-    let history = numbered_event d.history.items c.make_room.new.history.items c.push_reserved.new.self.items c.args.caller blob c.args.place c.in-Ok-shared_twice.pages _ c.make_room.ensures.items c.push_reserved.ensures.items
+    let history = numbered_event d.history.entries c.make_room.new.self.entries c.push_reserved.new.self.entries c.args.caller blob c.args.place c.in-Ok-shared_twice.pages _ c.make_room.ensures.entries c.push_reserved.ensures
     c.in-Ok-shared_twice.ensures.0 in
     ap (λ (l : List Event). blob_at (store_of d.limits l) blob) history
     ∙ assign_there c.self.invariant.kept c.args.caller blob c.args.place bytes x.found (c.in-Ok.ensures.accepted x.found.b x.keeps)
@@ -186,7 +186,7 @@ returns-clause-ticket c =
     let u : Update = record { caller = c.args.caller; place = c.args.place; bytes = bytes_of_pages (arc_value c.args.pages.now).pages } in
     let x = at (goal.at.returns-clause-ticket c).After-index-window c.index-window.result.now c.index-window.ensures in
     let b : Blob = x.found.b in
-    let O : ℕ → List Update = λ i. updates_or_none (blob_at (store_of d.limits (map event_of c.push_reserved.new.self.items)) i) in
+    let O : ℕ → List Update = λ i. updates_or_none (blob_at (store_of d.limits (map event_of c.push_reserved.new.self.entries)) i) in
     let updates : O t.blob ≡ b.updates ++ u ∷ [] = ap O (c.in-Ok.ensures.blob ∙ x.id) ∙ ap updates_or_none (entered (goal.at.returns-clause-ticket c).After-push_reserved) in
     is_ticket _ t b.updates u updates (c.in-Ok.ensures.version b x.keeps) (ap (λ (s : Version). s.page_size) c.in-Ok.ensures.snapshot ∙ x.page) (sym c.in-Ok.ensures.caller)
     (ap (λ (q : Cut). bytes_of_pages q.pages) c.in-Ok.ensures.pages) (c.in-Ok.ensures.stands b u x.keeps refl refl)
@@ -211,18 +211,18 @@ returns-clause-new c =
     let touch = own_touch c.in-Ok.ticket in
     let desk : List Event → List Numbered → DeskState = λ l ws. record { limits = d.limits; page_size = d.page_size; houses = arc_value d.houses; nodes = arc_value d.nodes; history = l; windows = ws } in
     let e : Event = Events.Assign c.args.caller blob c.args.place (bytes_of_pages (arc_value c.args.pages.now).pages) in
-    let history = numbered_event d.history.items c.make_room.new.history.items c.push_reserved.new.self.items c.args.caller blob c.args.place c.in-Ok-shared_twice.pages _ c.make_room.ensures.items c.push_reserved.ensures.items
+    let history = numbered_event d.history.entries c.make_room.new.self.entries c.push_reserved.new.self.entries c.args.caller blob c.args.place c.in-Ok-shared_twice.pages _ c.make_room.ensures.entries c.push_reserved.ensures
     c.in-Ok-shared_twice.ensures.0 in
     let is : after.numbered ≡ with_numbered (get_or (numbered_of items) (blob - 1) no_window) touch =
     c.number.ensures.numbered ∙ ap (with_numbered w.numbered) c.touch.ensures ∙ ap (λ (v : Numbered). with_numbered v touch) y.window in
     let windows = map-set seen_in items c.in-Some.index after ∙ ap (λ (i : ℕ). set (numbered_of items) i after.numbered) y.at ∙ ap (set (numbered_of items) (blob - 1)) is in
-    let P : DeskState → Type 0 = λ s. desk (map event_of c.push_reserved.new.self.items) (numbered_of (set items c.in-Some.index after)) ≡ with_event s e (windows_with s blob (with_numbered (window_in s blob) touch)) in
-    subst P c.self.view_is (ap (λ (l : List Event). desk l (numbered_of (set items c.in-Some.index after))) history ∙ ap (desk (map event_of d.history.items ++ e ∷ [])) windows)
+    let P : DeskState → Type 0 = λ s. desk (map event_of c.push_reserved.new.self.entries) (numbered_of (set items c.in-Some.index after)) ≡ with_event s e (windows_with s blob (with_numbered (window_in s blob) touch)) in
+    subst P c.self.view_is (ap (λ (l : List Event). desk l (numbered_of (set items c.in-Some.index after))) history ∙ ap (desk (map event_of d.history.entries ++ e ∷ [])) windows)
 
 pub returns-clause-hints : goal.returns-clause-hints
 returns-clause-hints c =
     let d = c.self.inside in
-    let h = map event_of d.history.items in
+    let h = map event_of d.history.entries in
     let blob = c.args.blob in
     let t = c.in-Ok.ticket in
     let w = c.index-window.result.now in

@@ -77,7 +77,7 @@ returns-in-Err-clause-refused c =
 pub invariant_of-self-2 : goal.invariant_of-self-2
 invariant_of-self-2 c =
     let d = c.self.inside in
-    let h = map event_of d.history.items in
+    let h = map event_of d.history.entries in
     let ws = d.windows.items in
     let houses = arc_value d.houses in
     let nodes = arc_value d.nodes in
@@ -99,25 +99,25 @@ invariant_of-self-2 c =
     let under = branch_under (parents_of h) parent before.numbered (suc (length ws)) (omega (arith, c.self.invariant.origins.count, length-map ws seen_in)) far
     (under_at c.self.invariant blob c.in-Some.index before x) in
     desk_and c.self.invariant _ (Events.Branch c.args.caller blob version) (Some parent) w _
-    (pushed_event d.history.items c.add.new.history.items entry c.in-Ok-add.ensures.history) c.in-Ok-add.ensures.windows refl keeps
+    (pushed_event d.history.entries c.add.new.history.entries entry c.in-Ok-add.ensures.history) c.in-Ok-add.ensures.windows refl keeps
     (subst (λ (v : Numbered). AreRowsIn nodes houses v) (sym new) lies)
     (subst (λ (v : Numbered). AreUnder (Some parent ∷ parents_of h) (suc (length ws)) v.rows) (sym new) under)
-    (short_yet d.history.items _ _ c.in-Ok-add.ensures.history c.in-Ok-add.ensures.short) tt
+    (short_yet d.history.entries _ _ c.in-Ok-add.ensures.history c.in-Ok-add.ensures.short) tt
 
 pub returns-clause-new : goal.returns-clause-new
 returns-clause-new c =
     let d = c.self.inside in
     let desk : List Event → List Numbered → DeskState = λ l ws. record { limits = d.limits; page_size = d.page_size; houses = arc_value d.houses; nodes = arc_value d.nodes; history = l; windows = ws } in
-    let h = map event_of d.history.items in
+    let h = map event_of d.history.entries in
     let ws = d.windows.items in
     let blob = c.args.blob in
     let version = c.args.version in
     let x = at (goal.at.returns-clause-new c).After-published-published in
     let e : Event = Events.Branch c.args.caller blob version in
     let made : Numbered → Numbered = λ w. window_on (under_blob (older_version (version_of w) version) c.in-Ok.id) in
-    let history = pushed_event d.history.items c.add.new.history.items record { caller = c.args.caller; change = Changes.Branch blob version } c.in-Ok-add.ensures.history in
+    let history = pushed_event d.history.entries c.add.new.history.entries record { caller = c.args.caller; change = Changes.Branch blob version } c.in-Ok-add.ensures.history in
     let windows = ap numbered_of c.in-Ok-add.ensures.windows ∙ map-append seen_in ws (c.in-Ok-branch_in.window ∷ []) ∙ ap (λ (w : Numbered). numbered_of ws ++ w ∷ []) (c.in-Ok-branch_in.ensures.new ∙ ap made x.window) in
-    let P : DeskState → Type 0 = λ s. desk (map event_of c.add.new.history.items) (numbered_of c.add.new.windows.items) ≡ with_event s e (windows_and s (made (window_in s blob))) in
+    let P : DeskState → Type 0 = λ s. desk (map event_of c.add.new.history.entries) (numbered_of c.add.new.windows.items) ≡ with_event s e (windows_and s (made (window_in s blob))) in
     subst P c.self.view_is (ap (λ (l : List Event). desk l (numbered_of c.add.new.windows.items)) history ∙ ap (desk (h ++ e ∷ [])) windows)
 
 pub returns-clause-blob : goal.returns-clause-blob

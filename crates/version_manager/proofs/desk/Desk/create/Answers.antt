@@ -43,7 +43,7 @@ returns-in-Err-clause-refused c =
 pub invariant_of-self-2 : goal.invariant_of-self-2
 invariant_of-self-2 c =
     let d = c.self.inside in
-    let h = map event_of d.history.items in
+    let h = map event_of d.history.entries in
     let houses = arc_value d.houses in
     let nodes = arc_value d.nodes in
     let w = c.in-Ok-first_in.window in
@@ -54,18 +54,18 @@ invariant_of-self-2 c =
     let keeps = create_keeps c.self.invariant.kept c.args.caller (fewer (goal.at.invariant_of-self-2 c).After-first_in) w (c.in-Ok-first_in.ensures.kept d.limits)
     c.in-Ok-first_in.ensures.none id page in
     let own = none_under (parents_of h) w.numbered (suc (length d.windows.items)) (omega (arith, c.self.invariant.origins.count, length-map d.windows.items seen_in)) rows in
-    desk_and c.self.invariant _ (Events.Create c.args.caller) None w _ (ap (map event_of) c.in-Ok-add.ensures.history ∙ map-append event_of d.history.items _)
-    c.in-Ok-add.ensures.windows refl keeps (none_in nodes houses w.numbered rows) own (short_yet d.history.items _ _ c.in-Ok-add.ensures.history c.in-Ok-add.ensures.short) tt
+    desk_and c.self.invariant _ (Events.Create c.args.caller) None w _ (ap (map event_of) c.in-Ok-add.ensures.history ∙ map-append event_of d.history.entries _)
+    c.in-Ok-add.ensures.windows refl keeps (none_in nodes houses w.numbered rows) own (short_yet d.history.entries _ _ c.in-Ok-add.ensures.history c.in-Ok-add.ensures.short) tt
 
 pub returns-clause-new : goal.returns-clause-new
 returns-clause-new c =
     let d = c.self.inside in
     let desk : List Event → List Numbered → DeskState = λ l ws. record { limits = d.limits; page_size = d.page_size; houses = arc_value d.houses; nodes = arc_value d.nodes; history = l; windows = ws } in
-    let h = map event_of d.history.items in
+    let h = map event_of d.history.entries in
     let e : Event = Events.Create c.args.caller in
-    let history = ap (map event_of) c.in-Ok-add.ensures.history ∙ map-append event_of d.history.items _ in
+    let history = ap (map event_of) c.in-Ok-add.ensures.history ∙ map-append event_of d.history.entries _ in
     let windows = ap numbered_of c.in-Ok-add.ensures.windows ∙ map-append seen_in d.windows.items (c.in-Ok-first_in.window ∷ []) ∙ ap (λ (w : Numbered). numbered_of d.windows.items ++ w ∷ []) c.in-Ok-first_in.ensures.new in
-    let P : DeskState → Type 0 = λ s. desk (map event_of c.add.new.history.items) (numbered_of c.add.new.windows.items)
+    let P : DeskState → Type 0 = λ s. desk (map event_of c.add.new.history.entries) (numbered_of c.add.new.windows.items)
     ≡ with_event s e (windows_and s (window_on record { blob = c.in-Ok.id; page_size = s.page_size; rows = [] })) in
     subst P c.self.view_is (ap (λ (l : List Event). desk l (numbered_of c.add.new.windows.items)) history ∙ ap (desk (h ++ e ∷ [])) windows)
 

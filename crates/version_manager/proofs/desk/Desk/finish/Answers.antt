@@ -84,7 +84,7 @@ invariant_of-self-in-Ok-finish c =
     let d = c.self.inside in
     let houses = arc_value d.houses in
     let nodes = arc_value d.nodes in
-    let h = map event_of d.history.items in
+    let h = map event_of d.history.entries in
     let row = arc_value c.args.row in
     let blob = c.blob-blob.result in
     let v = c.version-version.result in
@@ -99,16 +99,16 @@ invariant_of-self-in-Ok-finish c =
     done.updates ∙ ap (λ (n : ℕ). drop (n - published_of w.numbered) w.updates) (done.published ∙ sym (ap published_of done.finished)) in
     let keeps = finished_keeps c.self.invariant.kept blob c.args.caller v w after row f even done.unfinished done.finished left in
     let entry : Entry = record { caller = c.args.caller; change = Changes.Finish blob v } in
-    let pushed = c.push_reserved.ensures.items ∙ ap (λ (l : List Entry). l ++ entry ∷ []) c.make_room.ensures.items in
+    let pushed = c.push_reserved.ensures ∙ ap (λ (l : List Entry). l ++ entry ∷ []) c.make_room.ensures.entries in
     let fits : IsRowIn nodes houses row = subst (λ (s : DeskState). IsRowIn s.nodes s.houses row) (sym c.self.view_is) c.requires.here in
     let lies = finished_in nodes houses w.numbered v row fits (lies_at c.self.invariant blob (blob - 1) w f.at) in
     let under = finished_under (parents_of h) blob w.numbered v row (c.requires.under ∙ sym c.blob-blob.ensures) (unfinished_none w.numbered.rows (v - 1) done.unfinished)
     (under_at c.self.invariant blob (blob - 1) w f.at) in
     let I : ℕ → ℕ → Type 0 = λ i n. IsInOrder d.page_size (store_of d.limits h) i n in
     let order : I c.args.ticket.now.blob c.args.ticket.now.version = subst (λ (s : DeskState). IsInOrder s.page_size (store_now s) c.args.ticket.now.blob c.args.ticket.now.version) (sym c.self.view_is) c.requires.in_order in
-    desk_changed c.self.invariant _ (Events.Finish c.args.caller blob v) blob (blob - 1) after (pushed_event d.history.items c.push_reserved.new.self.items entry pushed) refl
+    desk_changed c.self.invariant _ (Events.Finish c.args.caller blob v) blob (blob - 1) after (pushed_event d.history.entries c.push_reserved.new.self.entries entry pushed) refl
     f.at.some refl keeps (subst (λ (x : Numbered). AreRowsIn nodes houses x) (sym done.finished) lies) (subst (λ (x : Numbered). AreUnder (parents_of h) blob x.rows) (sym done.finished) under)
-    (short_yet d.history.items c.push_reserved.new.self.items entry pushed c.in-Ok.ensures.short)
+    (short_yet d.history.entries c.push_reserved.new.self.entries entry pushed c.in-Ok.ensures.short)
     (subst (λ (i : ℕ). I i v) (sym c.blob-blob.ensures) (subst (λ (n : ℕ). I c.args.ticket.now.blob n) (sym c.version-version.ensures.version) order))
 
 pub returns-in-Ok-finish-clause-published : goal.returns-in-Ok-finish-clause-published
@@ -148,8 +148,8 @@ returns-in-Ok-finish-clause-finished c =
     let there = finish_there c.self.invariant.kept blob c.args.caller v f.at.found
     (finishable_mark _ _ v w _ f ∙ c.in-Ok-finish.ensures.unfinished) in
     let entry : Entry = record { caller = c.args.caller; change = Changes.Finish blob v } in
-    let history = pushed_event d.history.items c.push_reserved.new.self.items entry (c.push_reserved.ensures.items ∙ ap (λ (l : List Entry). l ++ entry ∷ []) c.make_room.ensures.items) in
-    said here (λ _ i n. finished_or_not (blob_at (store_of d.limits (map event_of c.push_reserved.new.self.items)) i) n ≡ true)
+    let history = pushed_event d.history.entries c.push_reserved.new.self.entries entry (c.push_reserved.ensures ∙ ap (λ (l : List Entry). l ++ entry ∷ []) c.make_room.ensures.entries) in
+    said here (λ _ i n. finished_or_not (blob_at (store_of d.limits (map event_of c.push_reserved.new.self.entries)) i) n ≡ true)
     (ap (λ (l : List Event). finished_or_not (blob_at (store_of d.limits l) blob) v) history ∙ ap (λ o. finished_or_not o v) there
     ∙ finished_same b v f.first (omega (arith, f.numbered, f.at.keeps.stands.counted, marks)))
 
@@ -188,11 +188,11 @@ returns-in-Ok-finish-clause-new c =
     let here = (goal.at.returns-in-Ok-finish-clause-new c).After-index-window in
     let f = found here w c.index_mut.ensures.value in
     let entry : Entry = record { caller = c.args.caller; change = Changes.Finish blob v } in
-    let history = pushed_event d.history.items c.push_reserved.new.self.items entry (c.push_reserved.ensures.items ∙ ap (λ (l : List Entry). l ++ entry ∷ []) c.make_room.ensures.items) in
+    let history = pushed_event d.history.entries c.push_reserved.new.self.entries entry (c.push_reserved.ensures ∙ ap (λ (l : List Entry). l ++ entry ∷ []) c.make_room.ensures.entries) in
     let old = this c.self.invariant.kept blob (arc_value d.nodes) in
     let desk : List Event → List Numbered → DeskState = λ l ws. record { limits = d.limits; page_size = d.page_size; houses = arc_value d.houses; nodes = arc_value d.nodes; history = l; windows = ws } in
-    let after = map event_of c.push_reserved.new.self.items in
+    let after = map event_of c.push_reserved.new.self.entries in
     let windows : numbered_of (set items (blob - 1) c.finish.new.self) ≡ windows_with old blob (with_finished (window_in old blob) v row) =
     map-set seen_in items (blob - 1) c.finish.new.self ∙ ap (λ (x : Numbered). set (numbered_of items) (blob - 1) x) (c.in-Ok-finish.ensures.finished ∙ ap (λ (x : Numbered). with_finished x v row) f.at.window) in
     said here (λ s i n. desk after (numbered_of (set items (blob - 1) c.finish.new.self)) ≡ with_event s (Events.Finish c.args.caller i n) (windows_with s i (with_finished (window_in s i) n row)))
-    (ap (λ (l : List Event). desk l (numbered_of (set items (blob - 1) c.finish.new.self))) history ∙ ap (desk (map event_of d.history.items ++ event_of entry ∷ [])) windows)
+    (ap (λ (l : List Event). desk l (numbered_of (set items (blob - 1) c.finish.new.self))) history ∙ ap (desk (map event_of d.history.entries ++ event_of entry ∷ [])) windows)

@@ -18,7 +18,7 @@ use Rattle.version_manager.specs.Origins.{LieUnderOrigins}
 use Rattle.version_manager.proofs.Desks.{IsAt, absent, at_index}
 use Rattle.version_manager.proofs.Houses.{older_in}
 use Rattle.version_manager.proofs.Keeping.{lies_at, under_at}
-use Rattle.version_manager.proofs.Looking.{look_none}
+use Rattle.version_manager.proofs.Stores.{look_none}
 use Rattle.version_manager.proofs.Origins.{older_under}
 use Rattle.version_manager.proofs.Results.{if_ok}
 use Rattle.version_manager.proofs.desk.Desk.snapshot_of.Goals.{After-index}
@@ -41,7 +41,7 @@ pub returns-in-Some-clause-size : goal.returns-in-Some-clause-size
 returns-in-Some-clause-size c = λ caller.
     let d = c.self.inside in
     let x = at (goal.at.returns-in-Some-clause-size c).After-index in
-    let s = store_of d.limits (map event_of d.history.items) in
+    let s = store_of d.limits (map event_of d.history.entries) in
     let P : DeskState → Type 0 = λ v. IfOk c.snapshot_in.result (λ (a : Version). (answer (store_of v.limits v.history) caller (Calls.Size c.args.blob c.args.version)).1 ≡ Outcomes.Size (size_now a)) in
     subst P c.self.view_is (rw (x.found.at, in_blob) (c.snapshot_in.ensures.size d.limits s x.found.b x.keeps))
 
@@ -69,7 +69,7 @@ pub returns-in-Some-clause-not_opened : goal.returns-in-Some-clause-not_opened
 returns-in-Some-clause-not_opened c = λ caller.
     let d = c.self.inside in
     let x = at (goal.at.returns-in-Some-clause-not_opened c).After-index in
-    let s = store_of d.limits (map event_of d.history.items) in
+    let s = store_of d.limits (map event_of d.history.entries) in
     let P : DeskState → Type 0 = λ v. IfErr c.snapshot_in.result (λ (fault : OpenFault). (answer (store_of v.limits v.history) caller (Calls.Size c.args.blob c.args.version)).1 ≡ unopened_size fault) in
     subst P c.self.view_is (rw (x.found.at, in_blob) (c.snapshot_in.ensures.not_opened d.limits s x.found.b x.keeps))
 
@@ -87,7 +87,7 @@ returns-in-Some-clause-here c =
 pub returns-in-Some-clause-origins : goal.returns-in-Some-clause-origins
 returns-in-Some-clause-origins c =
     let d = c.self.inside in
-    let h = map event_of d.history.items in
+    let h = map event_of d.history.entries in
     let blob = c.args.blob in
     let w = c.index.result.now in
     let x = at (goal.at.returns-in-Some-clause-origins c).After-index in
@@ -98,7 +98,7 @@ returns-in-Some-clause-origins c =
 pub returns-in-None-clause-not_opened : goal.returns-in-None-clause-not_opened
 returns-in-None-clause-not_opened c = λ caller.
     let d = c.self.inside in
-    let h = map event_of d.history.items in
+    let h = map event_of d.history.entries in
     let none = absent c.self.invariant.kept c.args.blob (λ some. omega (arith, d.windows.ok.0, c.in-None.ensures some)) in
     let P : DeskState → Type 0 = λ v. (answer (store_of v.limits v.history) caller (Calls.Size c.args.blob c.args.version)).1 ≡ Outcomes.Refused (Refusals.NoBlob c.args.blob) in
     subst P c.self.view_is (look_none (Looks.Size c.args.version) (store_of d.limits h) caller c.args.blob none)

@@ -73,7 +73,7 @@ returns-in-Ok-clause-ticket c =
     let seen = subst (λ (p : ℕ). IsWaitingUpdate p houses b.updates v update) (sym x.page) u in
     let t = c.in-Ok.ticket in
     let done = c.in-Ok.ensures in
-    let O : ℕ → List Update = λ i. updates_or_none (blob_at (store_of d.limits (map event_of d.history.items)) i) in
+    let O : ℕ → List Update = λ i. updates_or_none (blob_at (store_of d.limits (map event_of d.history.entries)) i) in
     let P : DeskState → Type 0 = λ s. IsTicketOf s t in
     subst P c.self.view_is (is_ticket_again _ t b.updates v d.page_size houses update (ap O (done.blob ∙ x.id) ∙ ap updates_or_none x.found.at) done.version
     (ap (λ (s : Version). s.page_size) done.snapshot ∙ x.page) u done.caller done.pages (done.stands d.limits b houses x.keeps seen))
@@ -102,7 +102,7 @@ returns-in-Ok-clause-waiting c =
 pub returns-in-Ok-clause-hints : goal.returns-in-Ok-clause-hints
 returns-in-Ok-clause-hints c =
     let d = c.self.inside in
-    let h = map event_of d.history.items in
+    let h = map event_of d.history.entries in
     let w = c.index-window.result.now in
     let x = at (goal.at.returns-in-Ok-clause-hints c).After-index-window in
     let t = c.in-Ok.ticket in

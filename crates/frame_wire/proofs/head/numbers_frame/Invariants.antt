@@ -1,7 +1,7 @@
 use Rattle.std.proofs.Common.{◌≡◌, ◌+◌, ◌*◌, ◌∷◌, length, take}
 use Rattle.frame_wire.specs.Said.{fields}
 use Rattle.items.specs.BegunFrame.{frame_part}
-use Rattle.frame_wire.proofs.reply.numbers_frame.Given as goal
+use Rattle.frame_wire.proofs.head.numbers_frame.Given as goal
 
 abbrev pub invariant-loop-number : goal.invariant-loop-number
 invariant-loop-number l =

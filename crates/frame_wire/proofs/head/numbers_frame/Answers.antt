@@ -2,7 +2,7 @@ use Rattle.std.proofs.Common.{◌≡◌, ◌∙◌, ◌+◌, ◌*◌, ℕ, List,
 use Rattle.frame_wire.specs.Said.{field, fields}
 use Rattle.items.specs.BegunFrame.{frame_part}
 use Rattle.frame_wire.proofs.ReplyLemmas.{numbers_more, framed_numbers}
-use Rattle.frame_wire.proofs.reply.numbers_frame.Goals as goal
+use Rattle.frame_wire.proofs.head.numbers_frame.Goals as goal
 
 pub loop-number-preserved : goal.loop-number-preserved
 loop-number-preserved c =
@@ -15,8 +15,8 @@ loop-number-preserved c =
       omega (arith, c.add.ensures.length, before.1),
     )
 
-pub returns : goal.returns
-returns c =
+pub returns-clause-frame : goal.returns-clause-frame
+returns-clause-frame c =
     let ns = c.args.numbers.now in
     let all : c.loop-number.number-index ≡ length ns = omega arith in
     c.loop-number.invariant.0 ∙ ap (λ (i : ℕ). frame_part (1 + 8 * length ns) (c.args.operation ∷ fields (take i ns))) all ∙ framed_numbers c.args.operation ns
