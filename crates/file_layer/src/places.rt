@@ -60,10 +60,7 @@ fn place_of<L: Ledger>(
 fn add_place(places: &mut Vec<PageHolders>, place: PageHolders) -> Result<(), NoMemory>
     ensures { OnOk result (places.new.items ≡ places.old.items ++ place ∷ []) }
 {
-    match places.push(place) {
-        Ok(()) => Ok(()),
-        Err(_) => Err(NoMemory),
-    }
+    Ok(places.push(place)?)
 }
 
 // The byte of a page by which it is asked for: the first of the page that a range has, which ends with byte `end`.

@@ -192,10 +192,8 @@ impl<'a, V: FileService, T: LineDialect> Conversation for FileTalk<'a, V, T> {
         rt: &R,
         item: FileHeard,
     ) -> Result<Said, NoMemory> {
-        match reply_to(rt, self.files, item) {
-            Ok(reply) => self.dialect.say_line(reply),
-            Err(NoMemory) => Err(NoMemory),
-        }
+        let reply = reply_to(rt, self.files, item)?;
+        self.dialect.say_line(reply)
     }
 }
 

@@ -69,9 +69,6 @@ impl FileDialect {
     pub fn say(&self, reply: FileReply) -> Result<Said, NoMemory>
         ensures { IfOk result (λ parts. parts.head.items ++ parts.body ≡ said reply) }
     {
-        match reply_line(self.alloc, reply) {
-            Ok(line) => Ok(Said::of_body(Bytes::of(line))),
-            Err(_) => Err(NoMemory),
-        }
+        Ok(Said::of_body(Bytes::of(reply_line(self.alloc, reply)?)))
     }
 }

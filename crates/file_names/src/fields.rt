@@ -50,10 +50,7 @@ fn number_in(field: &[u8]) -> Option<u64>
 fn path_in(alloc: Global, field: &[u8]) -> Result<Option<Path>, NoMemory>
     ensures { IfOk result (λ path. path ≡ path_of field.now) }
 {
-    match field.to_vec(alloc) {
-        Ok(text) => Ok(Path::of(text)),
-        Err(_) => Err(NoMemory),
-    }
+    Ok(Path::of(field.to_vec(alloc)?))
 }
 
 // The bytes that a field spells: `-` is none of them.

@@ -53,13 +53,9 @@ fn put_at<X: Drop>(
     ensures put { OnOk result (HasPut map.old bytes.now value map.new) }
     ensures same { OnErr result (map.new.entries ≡ map.old.entries) }
 {
-    let Ok(key) = bytes.to_vec(alloc) else {
-        return Err(NoMemory);
-    };
-    match map.insert(key, value) {
-        Ok(_) => Ok(()),
-        Err(_) => Err(NoMemory),
-    }
+    let key = bytes.to_vec(alloc)?;
+    let _before = map.insert(key, value)?;
+    Ok(())
 }
 
 // Gives a folder a map for its entries, where it has none.
@@ -95,23 +91,17 @@ pub(crate) fn put_entry(
 fn listed(alloc: Global, name: &[u8], named: Named) -> Result<Listed, NoMemory>
     ensures { IfOk result (λ l. l ≡ listed_of (name.now, named)) }
 {
-    match name.to_vec(alloc) {
-        Ok(bytes) => Ok(Listed {
-            name: Bytes::of(bytes),
-            folder: is_folder(named),
-        }),
-        Err(_) => Err(NoMemory),
-    }
+    Ok(Listed {
+        name: Bytes::of(name.to_vec(alloc)?),
+        folder: is_folder(named),
+    })
 }
 
 // One entry more.
 fn list_one(all: &mut Vec<Listed>, one: Listed) -> Result<(), NoMemory>
     ensures { OnOk result (all.new.items ≡ all.old.items ++ one ∷ []) }
 {
-    match all.push(one) {
-        Ok(()) => Ok(()),
-        Err(_) => Err(NoMemory),
-    }
+    Ok(all.push(one)?)
 }
 
 // A folder's entries in order.

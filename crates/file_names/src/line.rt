@@ -142,10 +142,8 @@ impl Body for Line {
     }
 
     fn take(&mut self, _: Global, piece: &[u8]) -> Result<Option<usize>, NoMemory> {
-        match self.bytes.extend_from_slice(piece) {
-            Ok(()) => Ok(Some(piece.len())),
-            Err(_) => Err(NoMemory),
-        }
+        self.bytes.extend_from_slice(piece)?;
+        Ok(Some(piece.len()))
     }
 
     fn into_item(self, alloc: Global) -> Result<FileHeard, NoMemory> {

@@ -167,10 +167,8 @@ impl Path {
     pub fn copy(&self, alloc: Global) -> Result<Path, NoMemory>
         ensures { IfOk result (λ p. p ≡ self.now) }
     {
-        match self.text.as_slice().to_vec(alloc) {
-            Ok(text) => Ok(Path { text }),
-            Err(_) => Err(NoMemory),
-        }
+        let text = self.text.as_slice().to_vec(alloc)?;
+        Ok(Path { text })
     }
 
     /// Whether the path is `/`, which has no parent and no name.

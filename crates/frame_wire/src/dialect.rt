@@ -88,16 +88,10 @@ impl Dialect for FrameDialect {
     }
 
     fn say(&self, reply: &Reply) -> Result<Bytes, NoMemory> {
-        match reply_frame(self.alloc, reply) {
-            Ok(frame) => Ok(Bytes::of(frame)),
-            Err(_) => Err(NoMemory),
-        }
+        Ok(Bytes::of(reply_frame(self.alloc, reply)?))
     }
 
     fn say_in_parts(&self, reply: Reply) -> Result<Said, NoMemory> {
-        match reply_parts(self.alloc, reply) {
-            Ok(parts) => Ok(parts),
-            Err(_) => Err(NoMemory),
-        }
+        Ok(reply_parts(self.alloc, reply)?)
     }
 }

@@ -3,6 +3,7 @@ ghost use Rattle.request_form.specs.Operations.{number_of, since_of, IsSince};
 ghost use Rattle.frame_wire.specs.Requests.{fits, request_of};
 ghost use Rattle.items.specs.Come.{Come, TakesBytes};
 
+use crate::bytes::take_bytes;
 use crate::number::take_numbers;
 use crate::operation::{heard, known};
 use arrayvec::ArrayVec;
@@ -42,22 +43,6 @@ impl Model for Fields {
     ghost view = { λ f. record { bytes = number_of f.operation ∷ (fields f.numbers.items ++ (f.part.items ++ f.bytes.items)); left = f.left } };
 
     ghost invariant = { λ f. IsDecoded f.operation f.numbers.items f.part.items f.bytes.items f.left };
-}
-
-// Takes an update's bytes off the front of a piece, of which `left` are still to come, and says how many. Room for all of
-// them is made once.
-fn take_bytes(bytes: &mut Vec<u8>, left: u32, piece: &[u8]) -> Result<usize, NoMemory>
-    ensures ok { IfOk result (λ count. (count ≡ min left (length piece.now)) × (bytes.new.items ≡ bytes.old.items ++ take count piece.now)) }
-    ensures err { OnErr result (bytes.new.items ≡ bytes.old.items) }
-{
-    let count = piece.len().min(left as usize);
-    if bytes.is_empty() && bytes.reserve_exact(left as usize).is_err() {
-        return Err(NoMemory);
-    }
-    match bytes.extend_from_slice(&piece[..count]) {
-        Ok(()) => Ok(count),
-        Err(_) => Err(NoMemory),
-    }
 }
 
 impl Fields {

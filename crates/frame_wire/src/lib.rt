@@ -7,6 +7,7 @@
 
 ghost use Rattle.std.specs.Prelude.{◌≡◌};
 
+pub mod bytes;
 mod dialect;
 mod fields;
 pub mod head;

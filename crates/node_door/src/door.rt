@@ -56,14 +56,11 @@ impl<I: Source + Sink> Way<I> {
         }) }
     {
         let size = p.bytes() as usize;
-        match vec![in alloc; 0u8; size] {
-            Ok(room) => Ok(Way {
-                wire: Wire::new(io),
-                room,
-                spent: false,
-            }),
-            Err(_) => Err(NoMemory),
-        }
+        Ok(Way {
+            wire: Wire::new(io),
+            room: vec![in alloc; 0u8; size]?,
+            spent: false,
+        })
     }
 
     // The link.

@@ -38,10 +38,7 @@ impl OwnPages {
         ensures same { SameOwn self.old.pages self.new.pages }
         ensures room { OnOk result (0 < self.new.spare) }
     {
-        match self.ids.reserve(1) {
-            Ok(()) => Ok(()),
-            Err(_) => Err(NoMemory),
-        }
+        Ok(self.ids.reserve(1)?)
     }
 
     /// The id of the page at a place, where the door stored it.

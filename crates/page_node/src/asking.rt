@@ -8,6 +8,7 @@ use crate::form::{NodeFault, NodeHeard, NodeRequest};
 use blob_model::Bytes;
 use byteorder::{BigEndian, ByteOrder};
 use faults::NoMemory;
+use frame_wire::bytes::take_bytes;
 use items::frames::Body;
 use std::alloc::Global;
 use std::marker::Model;
@@ -121,22 +122,6 @@ fn get_of(fields: &[u8]) -> NodeRequest
         id: number_at(fields, 0),
         from: number_at(fields, 8),
         length: number_at(fields, 16),
-    }
-}
-
-// Takes bytes off the front of a piece, of which `left` are still to come, and says how many. Room for all of them is made
-// once.
-fn take_bytes(bytes: &mut Vec<u8>, left: u32, piece: &[u8]) -> Result<usize, NoMemory>
-    ensures ok { IfOk result (λ count. (count ≡ min left (length piece.now)) × (bytes.new.items ≡ bytes.old.items ++ take count piece.now)) }
-    ensures err { OnErr result (bytes.new.items ≡ bytes.old.items) }
-{
-    let count = piece.len().min(left as usize);
-    if bytes.is_empty() && bytes.reserve_exact(left as usize).is_err() {
-        return Err(NoMemory);
-    }
-    match bytes.extend_from_slice(&piece[..count]) {
-        Ok(()) => Ok(count),
-        Err(_) => Err(NoMemory),
     }
 }
 

@@ -60,10 +60,7 @@ impl Dialect for ScriptDialect {
     }
 
     fn say(&self, reply: &Reply) -> Result<Bytes, NoMemory> {
-        match reply_line(self.alloc, reply) {
-            Ok(line) => Ok(Bytes::of(line)),
-            Err(_) => Err(NoMemory),
-        }
+        Ok(Bytes::of(reply_line(self.alloc, reply)?))
     }
 
     fn say_in_parts(&self, reply: Reply) -> Result<Said, NoMemory> {

@@ -307,13 +307,9 @@ fn push_pairs(bytes: &mut Vec<u8>, digits: &[u8]) -> Result<(), NoMemory>
     ensures err { OnErr result (bytes.new.items ≡ bytes.old.items) }
 {
     let held = bytes.len();
-    match bytes.resize(held + digits.len() / 2, 0) {
-        Ok(()) => {
-            decode_behind(bytes.as_mut_slice(), held, digits);
-            Ok(())
-        }
-        Err(_) => Err(NoMemory),
-    }
+    bytes.resize(held + digits.len() / 2, 0)?;
+    decode_behind(bytes.as_mut_slice(), held, digits);
+    Ok(())
 }
 
 // Adds one more byte, and says which part has come then. Runs take most bytes, so it is kept out of the loop, and `add` with it.

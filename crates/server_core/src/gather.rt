@@ -27,10 +27,8 @@ impl Gathered {
     pub(crate) fn new(alloc: Global) -> Result<Gathered, NoMemory>
         ensures { IfOk result (λ gathered. gathered.bytes.items ≡ []) }
     {
-        match Vec::with_capacity(alloc, MOST) {
-            Ok(bytes) => Ok(Gathered { bytes }),
-            Err(_) => Err(NoMemory),
-        }
+        let bytes = Vec::with_capacity(alloc, MOST)?;
+        Ok(Gathered { bytes })
     }
 
     /// Whether no reply waits.

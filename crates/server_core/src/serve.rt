@@ -231,10 +231,7 @@ fn room_of(left: u64) -> usize
 fn buffer(alloc: Global, n: usize) -> Result<Vec<u8>, NoMemory>
     ensures { IfOk result (λ buf. length buf.items ≡ n) }
 {
-    match vec![in alloc; 0u8; n] {
-        Ok(buf) => Ok(buf),
-        Err(_) => Err(NoMemory),
-    }
+    Ok(vec![in alloc; 0u8; n]?)
 }
 
 // Answers what one more piece makes whole, and writes the replies.
