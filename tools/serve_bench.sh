@@ -7,8 +7,7 @@
 # Each row is a load of tools/frames_bench.rs, which rustc makes, run twice against a server of its own; what stands there are
 # requests a second, and the time of one in microseconds (of 50, 99 and 100 % of them). The proved program is
 # crates/blobseer/out/blobseer, or what PROGRAM names. OPS is the number of requests of a client (20000 unless said otherwise). Let
-# nothing else run beside it. Half of the free memory is touched first: a virtual machine takes microseconds for each page that was
-# never touched since it started, which a store that grows pays for with each request, and one that writes in place doesn't.
+# nothing else run beside it.
 set -u
 top=$(cd "$(dirname "$0")/.." && pwd)
 programs=("${PROGRAM:-$top/crates/blobseer/out/blobseer}" "$@")
@@ -21,7 +20,6 @@ server=
 trap 'kill "$server" 2>/dev/null; rm -rf "$work"' EXIT
 rustc --edition 2024 -O -o "$work/load" "$top/tools/frames_bench.rs" || exit 2
 ops=${OPS:-20000}
-python3 -c 'import sys; b"\1" * (int(sys.argv[1]) << 10)' "$(awk '/^MemAvailable/ { print int($2 / 2) }' /proc/meminfo)" || exit 2
 port=${PORT:-7480}
 
 # One load against a new server.
